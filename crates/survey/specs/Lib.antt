@@ -1,0 +1,4 @@
+pub mod Counting
+pub mod Ends
+pub mod Model
+pub mod Changes
