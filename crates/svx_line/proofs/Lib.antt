@@ -1,0 +1,3 @@
+mod FirstToken
+mod Splitting
+mod Judging

@@ -1,0 +1,4 @@
+pub mod Spans
+pub mod Tokens
+pub mod Verdicts
+pub mod Told
