@@ -1,0 +1,12 @@
+-- The digits counted, with those of the number that is left, make one more than those of n.
+use mathlib.Core.Path.{_≡_}
+use Prim.Native.Nat.{_+_, _≤_}
+use lib.ListN.{length}
+use Rattle.std.specs.Written.{decimal}
+use Rattle.report.proofs.width.Given as given
+
+abbrev pub Inv-loop-m : given.InvT-loop-m
+Inv-loop-m l = (l .w + length (decimal (l .m)) ≡ length (decimal (l .n)) + 1) × (l .m ≤ l .n)
+
+abbrev pub μ-loop-m : given.MeasureT-loop-m
+μ-loop-m l = l .m
