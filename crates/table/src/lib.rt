@@ -2,6 +2,7 @@
 ghost use mathlib.Core.Path.{_≡_};
 ghost use mathlib.Core.Bool.{true};
 ghost use mathlib.Core.List.{[]};
+ghost use Prim.Native.Nat.{_≤_};
 ghost use lib.Dec.{ltb};
 ghost use lib.ListN.{length};
 ghost use Rattle.table.specs.Tables.{table-legs};
@@ -41,7 +42,8 @@ impl SurveyTable {
 
     /// The legs in use.
     pub fn as_slice(&self) -> &[Leg]
-        ensures { λ r. ⌜ now r ≡ table-legs (now (self .entry)) ⌝ }
+        ensures legs { λ r. ⌜ now r ≡ table-legs (now (self .entry)) ⌝ }
+        ensures few { λ r. ⌜ length (now r) ≤ 256 ⌝ }
     {
         &self.legs[0..self.count]
     }

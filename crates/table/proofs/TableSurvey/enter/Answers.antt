@@ -36,13 +36,13 @@ grown xs ys n l f s v e d =
 pub ghost-self : need.ghost-self
 ghost-self c =
     let t = c .args .self .now in
-    let g = grown (t .legs) _ (t .count) (c .args .leg) (t .full) (t .small) (t .valid) (c .as-slice .ensures) (c .in-Ok .ensures tt) in
+    let g = grown (t .legs) _ (t .count) (c .args .leg) (t .full) (t .small) (t .valid) (c .as-slice .ensures .legs) (c .in-Ok .ensures tt) in
     (g .0, (g .1, (g .2, tt)))
 
 pub returns-in-Ok : need.returns-in-Ok
 returns-in-Ok c =
     let t = c .args .self .now in
-    let g = grown (t .legs) _ (t .count) (c .args .leg) (t .full) (t .small) (t .valid) (c .as-slice .ensures) (c .in-Ok .ensures tt) in
+    let g = grown (t .legs) _ (t .count) (c .args .leg) (t .full) (t .small) (t .valid) (c .as-slice .ensures .legs) (c .in-Ok .ensures tt) in
     let r = g .1 in
-    let d = answered (t .legs) _ (t .count) (c .args .leg) (t .full) (t .small) (c .as-slice .ensures) (c .in-Ok .ensures tt) in
+    let d = answered (t .legs) _ (t .count) (c .args .leg) (t .full) (t .small) (c .as-slice .ensures .legs) (c .in-Ok .ensures tt) in
     record { answer = d; list = take-more-set (t .legs) (t .count) (c .args .leg) (omega arith) ∙ passes _ _ _ d; facts = λ no. absurd (no refl); led = tt }
