@@ -7,6 +7,8 @@ ghost use Rattle.refusal.specs.Answers.{told};
 ghost use Rattle.slice_vec.specs.Places.{item-read, append-answer, append-used, append-places, at-answer, at-item, replace-places};
 use refusal::Refusal;
 
+mod size;
+
 /// A lent slice of places, of which the first `used` are in use.
 #[derive(Drop)]
 pub struct SliceVec<'a, T> {
@@ -22,20 +24,6 @@ impl<'a, T: Copy> SliceVec<'a, T> {
         ensures lender { λ r. ⌜ name (r .places) ≡ name (places .entry) ⌝ }
     {
         SliceVec { places, used: 0 }
-    }
-
-    /// The count in use.
-    pub fn len(&self) -> usize
-        ensures { λ r. ⌜ r ≡ now (self .entry) .used ⌝ }
-    {
-        self.used
-    }
-
-    /// The places supplied, in use or not.
-    pub fn capacity(&self) -> usize
-        ensures { λ r. ⌜ r ≡ length (now (now (self .entry) .places)) ⌝ }
-    {
-        self.places.len()
     }
 
     /// Puts a record at the first place that is not in use.

@@ -65,7 +65,7 @@ pub impl Survey for SurveyTable as TableSurvey {
     fn count(&self) -> usize
         ensures { λ r. ⌜ r ≡ length (table-legs (now (self .entry))) ⌝ }
     {
-        self.count
+        self.as_slice().len()
     }
 
     /// A leg may be entered while there are fewer than 256.
@@ -87,8 +87,8 @@ pub impl Survey for SurveyTable as TableSurvey {
     }
 
     fn enter(&mut self, leg: Leg) -> Result<(), Refusal> {
-        let may = self.count < CAPACITY;
-        match checks::check_enter(self.as_slice(), may, &leg) {
+        let legs = self.as_slice();
+        match checks::check_enter(legs, legs.len() < CAPACITY, &leg) {
             Err(e) => Err(e),
             Ok(()) => {
                 self.legs[self.count] = leg;
