@@ -1,9 +1,9 @@
 -- Tables that are filled place by place, and counts one number on.
-use mathlib.Core.Path.{_≡_, ap}
+use mathlib.Core.Path.{_≡_, refl, ap}
 use mathlib.Core.Logic.{_≢_}
 use mathlib.Core.Bool.{Bool, true, false, cond}
 use mathlib.Core.List.{List}
-use Prim.Native.Nat.{ℕ, suc, _+_, _<_}
+use Prim.Native.Nat.{ℕ, zero, suc, _+_, _<_}
 use native.Mathlib.Numerals.{add-one}
 use native.Mathlib.Omega.{arith}
 use lib.ListN.{length, set}
@@ -22,3 +22,8 @@ count-yes p k t = let m : count p (k + 1) ≡ cond (p k) 1 0 + count p k = ap (c
 
 pub count-no : (p : ℕ → Bool) (k : ℕ) → p k ≡ false → count p (k + 1) ≡ count p k
 count-no p k t = let m : count p (k + 1) ≡ cond (p k) 1 0 + count p k = ap (count p) (add-one k) in let s = cond-false {A = ℕ} (p k) 1 0 t in omega arith
+
+-- tests that agree below k count the same
+pub count-same : (p q : ℕ → Bool) (k : ℕ) → ((i : ℕ) → i < k → p i ≡ q i) → count p k ≡ count q k
+count-same p q zero h = refl
+count-same p q (suc k) h = λ t. cond (h k (omega arith) t) 1 0 + count-same p q k (λ i l. h i (omega arith)) t
