@@ -109,7 +109,7 @@ module _ (legs : List Leg) where
       (λ (l : suc (length legs) ≤ count (reached legs (suc (length legs))) (length legs)). absurd (let b = count-bound (reached legs (suc (length legs))) (length legs) in omega arith))
       (grows (suc (length legs)))
 
-  joined-lt : {i : ℕ} → 0 < length legs → Joined legs i → i < length legs
+  pub joined-lt : {i : ℕ} → 0 < length legs → Joined legs i → i < length legs
   joined-lt p first = p
   joined-lt p (along i j c t l) = l
 
