@@ -3,7 +3,7 @@ ghost use mathlib.Core.Path.{_≡_};
 ghost use mathlib.Core.Bool.{true, false, cond};
 ghost use Prim.Native.Nat.{_<_, _≤_};
 ghost use lib.IntN.{pos, _+ℤ_, _-ℤ_};
-ghost use lib.ListN.{length};
+ghost use lib.ListN.{length, getD};
 ghost use Rattle.survey.specs.Ends.{ends};
 ghost use Rattle.survey.specs.Model.{valid-legs};
 ghost use Rattle.embedding.specs.Rotation.{next, face-step, face, faces as faces-of, angle-face};
@@ -12,6 +12,7 @@ ghost use Rattle.embedding.specs.Tables.{Holds};
 use cycles::name_cycles;
 use cycles::tally;
 use rotation::ends::twin;
+use rotation::fill_next;
 use survey::leg::Leg;
 
 // One step of the face walk from each end.
@@ -134,4 +135,29 @@ pub fn fill_demands(
     fill_source_switches(legs, nexts, &mut switches);
     tally(&angles, &switches, 2 * legs.len(), &mut tallies);
     fill_from_tallies(legs, &tallies, outer, demands);
+}
+
+// The demand at an index of a table.
+fn at(demands: &[i64], i: usize) -> i64
+    requires { ⌜ i < length (now demands) ⌝ }
+    ensures { λ r. ⌜ r ≡ getD (now (demands .entry)) i (pos 0) ⌝ }
+{
+    demands[i]
+}
+
+/// The demand of the face of one end, where the face of another is the outer one.
+pub fn demand_of(legs: &[Leg], outer: usize, end: usize) -> i64
+    requires valid { ⌜ valid-legs (now legs) ≡ true ⌝ }
+    requires few { ⌜ length (now legs) ≤ 256 ⌝ }
+    requires outer { ⌜ outer < ends (now legs) ⌝ }
+    requires inside { ⌜ end < ends (now legs) ⌝ }
+    ensures { λ r. ⌜ r ≡ demand (now (legs .entry)) (face (now (legs .entry)) outer) (face (now (legs .entry)) end) ⌝ }
+{
+    let mut nexts = [0; 512];
+    let mut faces = [0; 512];
+    let mut demands = [0; 512];
+    fill_next(legs, &mut nexts);
+    fill_faces(legs, &nexts, &mut faces);
+    fill_demands(legs, &nexts, &faces, faces[outer], &mut demands);
+    at(&demands, faces[end])
 }
