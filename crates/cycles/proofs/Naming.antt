@@ -71,7 +71,7 @@ module _ (steps : List ℕ) (n : ℕ) (perm : Permutes (at steps) n) where
     on : (k : ℕ) → cycle-name steps n (iter (at steps) k e) ≡ e
     on k = sym (same-low n (at steps) perm e (iter (at steps) k e) inside (iter-lt n (at steps) perm k e inside) (k, refl)) ∙ its-name
 
-    pub walked-more : (k at-now : ℕ) (names : List ℕ) → Walked steps n e k at-now was names → Walked steps n e (k + 1) (getD steps at-now 0) was (set names at-now e)
+    walked-more : (k at-now : ℕ) (names : List ℕ) → Walked steps n e k at-now was names → Walked steps n e (k + 1) (getD steps at-now 0) was (set names at-now e)
     walked-more k at-now names w =
         let here : at-now < length names = let l = w .within in let g = w .long in omega arith in
         record {
@@ -84,6 +84,9 @@ module _ (steps : List ℕ) (n : ℕ) (perm : Permutes (at steps) n) where
               (cases-eq (iter (at steps) j e) at-now);
           others = λ d l ne. let far : d ≢ at-now = λ q. ne (ap (cycle-name steps n) (q ∙ w .place) ∙ on k) in rw getD-set-other (w .others d l ne);
         }
+
+    pub walked-on : (k at-now at-next : ℕ) (names names′ : List ℕ) → Walked steps n e k at-now was names → at-next ≡ getD steps at-now 0 → names′ ≡ set names at-now e → Walked steps n e (k + 1) at-next was names′
+    walked-on k at-now at-next names names′ w p q = rw (p, q) (walked-more k at-now names w)
 
     -- where the walk is back after p steps, all of them named, its cycle is named
     pub walked-all : (k p at-now : ℕ) (names : List ℕ) → Walked steps n e k at-now was names → 0 < p → p ≤ k → iter (at steps) p e ≡ e → Holds 0 (named-below steps n (e + 1)) names n

@@ -1,7 +1,7 @@
 // Tables over plain numbers: the cycles of a permutation, and tallies by key.
 ghost use mathlib.Core.Path.{_≡_};
-ghost use Prim.Native.Nat.{ℕ, _+_, _<_, _≤_};
-ghost use lib.ListN.{length, getD};
+ghost use Prim.Native.Nat.{ℕ, _+_, _^_, _<_, _≤_};
+ghost use lib.ListN.{length, getD, set};
 ghost use Rattle.embedding.specs.Laws.{Permutes};
 ghost use Rattle.embedding.specs.Tables.{Holds};
 ghost use Rattle.cycles.specs.Cycles.{at as at-of, cycle-name, named-below, tallied};
@@ -16,6 +16,17 @@ fn clear_names(n: usize, names: &mut [usize])
     }
 }
 
+// Gives a number its name, and tells the next one on its cycle.
+fn name_one(steps: &[usize], names: &mut [usize], at: usize, name: usize) -> usize
+    requires stepped { ⌜ at < length (now steps) ⌝ }
+    requires room { ⌜ at < length (now names) ⌝ }
+    ensures next { λ r. ⌜ r ≡ getD (now (steps .entry)) at 0 ⌝ }
+    ensures named { λ r. ⌜ now (names .exit) ≡ set (now (names .entry)) at name ⌝ }
+{
+    names[at] = name;
+    steps[at]
+}
+
 // Gives all numbers on the cycle of e the name e, where no lower number is on it.
 fn name_cycle(steps: &[usize], n: usize, names: &mut [usize], e: usize)
     requires permutes { ⌜ Permutes (at-of (now steps)) n ⌝ }
@@ -28,8 +39,7 @@ fn name_cycle(steps: &[usize], n: usize, names: &mut [usize], e: usize)
 {
     let mut at = e;
     for k in 0..n {
-        names[at] = e;
-        at = steps[at];
+        at = name_one(steps, names, at, e);
         if at == e {
             return;
         }
@@ -51,6 +61,15 @@ pub fn name_cycles(steps: &[usize], n: usize, names: &mut [usize])
     }
 }
 
+// One more at a key.
+fn count_one(tallies: &mut [usize], v: usize)
+    requires inside { ⌜ v < length (now tallies) ⌝ }
+    requires small { ⌜ getD (now tallies) v 0 < 2 ^ 63 ⌝ }
+    ensures { λ _. ⌜ now (tallies .exit) ≡ set (now (tallies .entry)) v (getD (now (tallies .entry)) v 0 + 1) ⌝ }
+{
+    tallies[v] += 1;
+}
+
 /// Counts the marked numbers below n by their keys, into places that hold 0.
 pub fn tally(keys: &[usize], marks: &[bool], n: usize, tallies: &mut [usize])
     requires keyed { ⌜ n ≤ length (now keys) ⌝ }
@@ -61,8 +80,7 @@ pub fn tally(keys: &[usize], marks: &[bool], n: usize, tallies: &mut [usize])
 {
     for k in 0..n {
         if marks[k] {
-            let v = keys[k];
-            tallies[v] += 1;
+            count_one(tallies, keys[k]);
         }
     }
 }

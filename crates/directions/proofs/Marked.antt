@@ -3,11 +3,11 @@ use mathlib.Core.Path.{_≡_, refl, sym, ap, _∙_}
 use mathlib.Core.Logic.{⊎-elim}
 use mathlib.Core.Bool.{Bool, true, false, cond, not, _&&_, _||_}
 use mathlib.Core.List.{List}
-use Prim.Native.Nat.{ℕ, zero, suc, _+_, _%_, _<_}
+use Prim.Native.Nat.{ℕ, zero, suc, _+_, _<_}
 use native.Mathlib.Omega.{arith}
-use lib.Dec.{eqb, leb, ltb}
+use lib.Dec.{eqb}
 use lib.ListN.{getD}
-use Rattle.std.proofs.shelf.Tests.{cases-bool, cond-true, cond-false, ne-eqb, eq-eqb, eqb-true, eqb-false}
+use Rattle.std.proofs.shelf.Tests.{cases-bool, cond-true, cond-false, ne-eqb}
 use Rattle.survey.specs.declared.leg.Leg.{Leg}
 use Rattle.survey.specs.Counting.{count, every}
 use Rattle.survey.specs.Ends.{ends, outgoing, station, same-station}
@@ -44,18 +44,12 @@ swap-sink true false = refl
 swap-sink false true = refl
 swap-sink false false = refl
 
-incoming : (e : ℕ) → eqb (e % 2) 1 ≡ not (outgoing e)
-incoming e = ⊎-elim
-    (λ (t : outgoing e ≡ true). let z = eqb-true _ _ t in ne-eqb _ _ (λ q. omega arith) ∙ sym (ap not t))
-    (λ (t : outgoing e ≡ false). let z = eqb-false _ _ t in eq-eqb _ _ (omega arith) ∙ sym (ap not t))
-    (cases-bool (outgoing e))
-
 module _ (legs : List Leg) (marks : List Bool) where
-  pub none-incoming : Holds false (λ e. eqb (e % 2) 1) marks (ends legs) → (e : ℕ) → eqb (marked-at legs marks (station legs e)) 0 ≡ source legs e
+  pub none-incoming : Holds false (λ e. not (outgoing e)) marks (ends legs) → (e : ℕ) → eqb (marked-at legs marks (station legs e)) 0 ≡ source legs e
   none-incoming h e = none-counted (λ k. getD marks k false && same-station legs e k) (λ k. not (same-station legs e k) || outgoing k) (ends legs)
-      (λ i l. ap (λ (b : Bool). b && same-station legs e i) (h i l ∙ incoming i) ∙ swap-source (outgoing i) (same-station legs e i))
+      (λ i l. ap (λ (b : Bool). b && same-station legs e i) (h i l) ∙ swap-source (outgoing i) (same-station legs e i))
 
-  pub none-outgoing : Holds false (λ e. eqb (e % 2) 0) marks (ends legs) → (e : ℕ) → eqb (marked-at legs marks (station legs e)) 0 ≡ sink legs e
+  pub none-outgoing : Holds false outgoing marks (ends legs) → (e : ℕ) → eqb (marked-at legs marks (station legs e)) 0 ≡ sink legs e
   none-outgoing h e = none-counted (λ k. getD marks k false && same-station legs e k) (λ k. not (same-station legs e k) || not (outgoing k)) (ends legs)
       (λ i l. ap (λ (b : Bool). b && same-station legs e i) (h i l) ∙ swap-sink (outgoing i) (same-station legs e i))
 

@@ -1,10 +1,10 @@
 // Directions round the stations: which are sources, which are sinks, and which are not bimodal.
 ghost use mathlib.Core.Path.{_≡_};
-ghost use mathlib.Core.Bool.{true, false};
-ghost use Prim.Native.Nat.{ℕ, _%_, _≤_, _<_};
-ghost use lib.Dec.{eqb};
+ghost use mathlib.Core.Bool.{true, false, not};
+ghost use Prim.Native.Nat.{_≤_};
+ghost use lib.Dec.{eqb, leb};
 ghost use lib.ListN.{length};
-ghost use Rattle.survey.specs.Ends.{ends, station};
+ghost use Rattle.survey.specs.Ends.{ends, outgoing, station};
 ghost use Rattle.survey.specs.Model.{valid-legs};
 ghost use Rattle.embedding.specs.Rotation.{next};
 ghost use Rattle.embedding.specs.Demands.{source, sink, turns-over};
@@ -16,13 +16,37 @@ use rotation::ends::end_station;
 use rotation::ends::fill_stations;
 use survey::leg::Leg;
 
-// Marks the ends of one direction: 0 for outgoing, 1 for incoming.
-fn fill_direction(n: usize, direction: usize, marks: &mut [bool])
+// Water leaves the station along this end.
+fn is_outgoing(e: usize) -> bool
+    ensures { λ r. ⌜ r ≡ outgoing e ⌝ }
+{
+    e % 2 == 0
+}
+
+// Water comes to the station along this end.
+fn is_incoming(e: usize) -> bool
+    ensures { λ r. ⌜ r ≡ not (outgoing e) ⌝ }
+{
+    e % 2 == 1
+}
+
+// Marks the outgoing ends.
+fn mark_outgoing(n: usize, marks: &mut [bool])
     requires { ⌜ n ≤ length (now marks) ⌝ }
-    ensures { λ _. ⌜ Holds false (λ e. eqb (e % 2) direction) (now (marks .exit)) n ⌝ }
+    ensures { λ _. ⌜ Holds false outgoing (now (marks .exit)) n ⌝ }
 {
     for e in 0..n {
-        marks[e] = e % 2 == direction;
+        marks[e] = is_outgoing(e);
+    }
+}
+
+// Marks the incoming ends.
+fn mark_incoming(n: usize, marks: &mut [bool])
+    requires { ⌜ n ≤ length (now marks) ⌝ }
+    ensures { λ _. ⌜ Holds false (λ e. not (outgoing e)) (now (marks .exit)) n ⌝ }
+{
+    for e in 0..n {
+        marks[e] = is_incoming(e);
     }
 }
 
@@ -64,7 +88,7 @@ pub fn fill_sources(legs: &[Leg], sources: &mut [bool])
 {
     let mut marks = [false; 512];
     let mut tallies = [0; 10000];
-    fill_direction(2 * legs.len(), 1, &mut marks);
+    mark_incoming(2 * legs.len(), &mut marks);
     tally_stations(legs, &marks, &mut tallies);
     fill_unmarked(legs, &marks, &tallies, sources);
 }
@@ -78,7 +102,7 @@ pub fn fill_sinks(legs: &[Leg], sinks: &mut [bool])
 {
     let mut marks = [false; 512];
     let mut tallies = [0; 10000];
-    fill_direction(2 * legs.len(), 0, &mut marks);
+    mark_outgoing(2 * legs.len(), &mut marks);
     tally_stations(legs, &marks, &mut tallies);
     fill_unmarked(legs, &marks, &tallies, sinks);
 }
@@ -92,8 +116,15 @@ fn fill_turns(legs: &[Leg], nexts: &[usize], turns: &mut [bool])
     ensures { λ _. ⌜ Holds false (turns-over (now (legs .entry))) (now (turns .exit)) (ends (now (legs .entry))) ⌝ }
 {
     for e in 0..2 * legs.len() {
-        turns[e] = (e % 2 == 0) != (nexts[e] % 2 == 0);
+        turns[e] = is_outgoing(e) != is_outgoing(nexts[e]);
     }
+}
+
+// So many changes of direction are more than a bimodal station has.
+fn is_mixed(changes: usize) -> bool
+    ensures { λ r. ⌜ r ≡ not (leb changes 2) ⌝ }
+{
+    changes > 2
 }
 
 // The lowest end at whose station there are more than two changes, or the number of ends.
@@ -107,7 +138,7 @@ fn find_mixed(legs: &[Leg], marks: &[bool], tallies: &[usize]) -> usize
 {
     for e in 0..2 * legs.len() {
         let s = end_station(legs, e) as usize;
-        if tallies[s] > 2 {
+        if is_mixed(tallies[s]) {
             return e;
         }
     }

@@ -2,11 +2,12 @@
 ghost use mathlib.Core.Path.{_≡_};
 ghost use mathlib.Core.Bool.{true, false, cond};
 ghost use Prim.Native.Nat.{_<_, _≤_};
+ghost use lib.Dec.{eqb};
 ghost use lib.IntN.{pos, _+ℤ_, _-ℤ_};
 ghost use lib.ListN.{length, getD};
 ghost use Rattle.survey.specs.Ends.{ends};
 ghost use Rattle.survey.specs.Model.{valid-legs};
-ghost use Rattle.embedding.specs.Rotation.{next, face-step, face, faces as faces-of, angle-face};
+ghost use Rattle.embedding.specs.Rotation.{twin as twin-of, next, face-step, face, faces as faces-of, angle-face};
 ghost use Rattle.embedding.specs.Demands.{source-switch, source-switches, demand};
 ghost use Rattle.embedding.specs.Tables.{Holds};
 use cycles::name_cycles;
@@ -14,6 +15,14 @@ use cycles::tally;
 use rotation::ends::twin;
 use rotation::fill_next;
 use survey::leg::Leg;
+
+// One step of the face walk: out along the leg of e, and on by the end that follows there.
+fn step(nexts: &[usize], e: usize) -> usize
+    requires { ⌜ e < 512 ⌝ ∗ ⌜ e < length (now nexts) ⌝ ∗ ⌜ twin-of e < length (now nexts) ⌝ }
+    ensures { λ r. ⌜ r ≡ getD (now (nexts .entry)) (twin-of e) 0 ⌝ }
+{
+    nexts[twin(e)]
+}
 
 // One step of the face walk from each end.
 fn fill_steps(legs: &[Leg], nexts: &[usize], steps: &mut [usize])
@@ -24,7 +33,7 @@ fn fill_steps(legs: &[Leg], nexts: &[usize], steps: &mut [usize])
     ensures { λ _. ⌜ Holds 0 (face-step (now (legs .entry))) (now (steps .exit)) (ends (now (legs .entry))) ⌝ }
 {
     for e in 0..2 * legs.len() {
-        steps[e] = nexts[twin(e)];
+        steps[e] = step(nexts, e);
     }
 }
 
@@ -42,6 +51,14 @@ pub fn fill_faces(legs: &[Leg], nexts: &[usize], faces: &mut [usize])
     name_cycles(&steps, 2 * legs.len(), faces);
 }
 
+// The end names its face.
+fn names_itself(faces: &[usize], e: usize) -> bool
+    requires { ⌜ e < length (now faces) ⌝ }
+    ensures { λ r. ⌜ r ≡ eqb (getD (now (faces .entry)) e 0) e ⌝ }
+{
+    faces[e] == e
+}
+
 /// The number of faces, given the face of each end.
 pub fn count_faces(legs: &[Leg], faces: &[usize]) -> usize
     requires few { ⌜ length (now legs) ≤ 256 ⌝ }
@@ -51,11 +68,21 @@ pub fn count_faces(legs: &[Leg], faces: &[usize]) -> usize
 {
     let mut n = 0;
     for e in 0..2 * legs.len() {
-        if faces[e] == e {
+        if names_itself(faces, e) {
             n += 1;
         }
     }
     n
+}
+
+// The face in which the angle of an end lies: that of the end after it.
+fn angle_at(nexts: &[usize], faces: &[usize], e: usize) -> usize
+    requires after { ⌜ e < length (now nexts) ⌝ }
+    requires inside { ⌜ e < length (now faces) ⌝ }
+    requires place { ⌜ getD (now nexts) e 0 < length (now faces) ⌝ }
+    ensures { λ r. ⌜ r ≡ getD (now (faces .entry)) (getD (now (nexts .entry)) e 0) 0 ⌝ }
+{
+    faces[nexts[e]]
 }
 
 /// The face in which the angle of each end lies.
@@ -69,7 +96,7 @@ pub fn fill_angle_faces(legs: &[Leg], nexts: &[usize], faces: &[usize], angles: 
     ensures { λ _. ⌜ Holds 0 (angle-face (now (legs .entry))) (now (angles .exit)) (ends (now (legs .entry))) ⌝ }
 {
     for e in 0..2 * legs.len() {
-        angles[e] = faces[nexts[e]];
+        angles[e] = angle_at(nexts, faces, e);
     }
 }
 

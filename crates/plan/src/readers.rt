@@ -74,7 +74,7 @@ impl Plan {
     pub fn outer_end(&self) -> usize
         ensures { λ r. ⌜ r ≡ side-end (now (self .entry) .outer) (now (self .entry) .side) ⌝ }
     {
-        2 * self.outer + self.side as usize
+        2 * self.outer_leg() + self.outer_side() as usize
     }
 
     /// The number of stations.
@@ -88,7 +88,7 @@ impl Plan {
     pub fn faces(&self) -> usize
         ensures { λ r. ⌜ r ≡ faces-of (plan-legs (now (self .entry))) ⌝ }
     {
-        self.count + 2 - self.stations()
+        2 + self.count - self.stations()
     }
 
     /// The face of an end, named by the lowest end on it; none where there is no such end.

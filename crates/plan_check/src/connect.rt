@@ -1,13 +1,30 @@
 // Which legs are joined to leg 0: marks spread over the stations until nothing changes.
 ghost use mathlib.Core.Path.{_≡_};
-ghost use mathlib.Core.Bool.{true, false};
+ghost use mathlib.Core.Bool.{true, false, not, Bool·beq};
 ghost use Prim.Native.Nat.{ℕ, _<_, _≤_};
-ghost use lib.ListN.{length};
+ghost use lib.ListN.{length, set};
 ghost use Rattle.survey.specs.Model.{valid-legs};
 ghost use Rattle.embedding.specs.Plans.{first-apart};
 ghost use Rattle.embedding.specs.Tables.{Holds};
-ghost use Rattle.plan_check.specs.Marks.{Sound, Closed, open-legs};
+ghost use Rattle.plan_check.specs.Marks.{marked, Sound, Closed, open-legs};
 use survey::leg::Leg;
+
+// Just one of the two stations of a leg is marked.
+fn is_half_marked(marks: &[bool], leg: &Leg) -> bool
+    requires { ⌜ now leg .from < length (now marks) ⌝ ∗ ⌜ now leg .to < length (now marks) ⌝ }
+    ensures { λ r. ⌜ r ≡ not (Bool·beq (marked (now (marks .entry)) (now (leg .entry) .from)) (marked (now (marks .entry)) (now (leg .entry) .to))) ⌝ }
+{
+    marks[leg.from as usize] != marks[leg.to as usize]
+}
+
+// Marks both stations of a leg.
+fn mark_both(marks: &mut [bool], leg: &Leg)
+    requires { ⌜ now leg .from < length (now marks) ⌝ ∗ ⌜ now leg .to < length (now marks) ⌝ }
+    ensures { λ _. ⌜ now (marks .exit) ≡ set (set (now (marks .entry)) (now (leg .entry) .from) true) (now (leg .entry) .to) true ⌝ }
+{
+    marks[leg.from as usize] = true;
+    marks[leg.to as usize] = true;
+}
 
 // Marks both stations of each leg that has one of them marked; false where there is none.
 fn spread(legs: &[Leg], marks: &mut [bool]) -> bool
@@ -20,11 +37,8 @@ fn spread(legs: &[Leg], marks: &mut [bool]) -> bool
 {
     let mut changed = false;
     for i in 0..legs.len() {
-        let from = legs[i].from as usize;
-        let to = legs[i].to as usize;
-        if marks[from] != marks[to] {
-            marks[from] = true;
-            marks[to] = true;
+        if is_half_marked(marks, &legs[i]) {
+            mark_both(marks, &legs[i]);
             changed = true;
         }
     }
@@ -40,10 +54,7 @@ fn mark_joined(legs: &[Leg], marks: &mut [bool])
     ensures sound { λ _. ⌜ Sound (now (legs .entry)) (now (marks .exit)) ⌝ }
     ensures closed { λ _. ⌜ Closed (now (legs .entry)) (now (marks .exit)) ⌝ }
 {
-    let from = legs[0].from as usize;
-    let to = legs[0].to as usize;
-    marks[from] = true;
-    marks[to] = true;
+    mark_both(marks, &legs[0]);
     while spread(legs, marks) {}
 }
 

@@ -9,4 +9,4 @@ pub tally-stations-requires : need.tally-stations-requires
 tally-stations-requires c κs = record { valid = c .pre .valid; few = c .pre .few; room = omega arith; wide = refl; blank = λ e l. getD-replicate 10000 e 0 0 l }
 
 pub returns : need.returns
-returns c e l = c .fill-unmarked .ensures e l ∙ none-incoming (c .args .legs .now) _ (c .fill-direction .ensures) e
+returns c e l = c .fill-unmarked .ensures e l ∙ none-incoming (c .args .legs .now) _ (c .mark-incoming .ensures) e

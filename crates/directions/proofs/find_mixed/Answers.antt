@@ -4,8 +4,8 @@ use mathlib.Core.Bool.{Bool, true, false, not}
 use mathlib.Core.List.{List}
 use Prim.Native.Nat.{ℕ, _≤_, _<_}
 use native.Mathlib.Omega.{arith}
+use lib.Dec.{leb}
 use lib.ListN.{getD}
-use Rattle.std.proofs.shelf.Tests.{le-leb, lt-leb}
 use Rattle.survey.specs.declared.leg.Leg.{Leg}
 use Rattle.survey.specs.Ends.{ends, station}
 use Rattle.survey.specs.Model.{valid-legs}
@@ -26,19 +26,19 @@ told legs marks tallies e s valid l h m q =
     let k = station-lt legs e valid l in
     m s (omega arith) ∙ ap (marked-at legs marks) q ∙ changes-marked legs marks h e
 
-pub returns-then-tallies-s-gt2 : need.returns-then-tallies-s-gt2
-returns-then-tallies-s-gt2 c =
+pub returns-then-is-mixed : need.returns-then-is-mixed
+returns-then-is-mixed c =
     let legs = c .args .legs .now in
     let e = c .loop-e .e in
     let t = told legs (c .args .marks .now) (c .args .tallies .now) e (c .end-station-s .result) (c .pre .valid) (omega arith) (c .pre .turns) (c .pre .counted) (c .end-station-s .ensures) in
-    sym (c .loop-e .inv ∙ seek-hit (λ e. not (bimodal-at legs e)) (ends legs) e (omega arith) (ap not (lt-leb (changes legs e) 2 (omega arith))))
+    sym (c .loop-e .inv ∙ seek-hit (λ e. not (bimodal-at legs e)) (ends legs) e (omega arith) (ap (λ (n : ℕ). not (leb n 2)) (sym t) ∙ sym (c .if-is-mixed .ensures tt)))
 
 pub loop-e-again : need.loop-e-again
 loop-e-again c =
     let legs = c .args .legs .now in
     let e = c .loop-e .e in
     let t = told legs (c .args .marks .now) (c .args .tallies .now) e (c .end-station-s .result) (c .pre .valid) (omega arith) (c .pre .turns) (c .pre .counted) (c .end-station-s .ensures) in
-    c .loop-e .inv ∙ seek-more (λ e. not (bimodal-at legs e)) (ends legs) e (omega arith) (ap not (le-leb (changes legs e) 2 (omega arith)))
+    c .loop-e .inv ∙ seek-more (λ e. not (bimodal-at legs e)) (ends legs) e (omega arith) (ap (λ (n : ℕ). not (leb n 2)) (sym t) ∙ sym (c .if-is-mixed .ensures tt))
 
 pub returns : need.returns
 returns c =

@@ -1,11 +1,11 @@
 -- One leg more: it has one station marked and gets both, or nothing changes.
-use mathlib.Core.Path.{_≡_, refl, sym, ap}
+use mathlib.Core.Path.{_≡_, refl, sym, ap, _∙_}
 use mathlib.Core.Logic.{⊎-elim}
 use mathlib.Core.Bool.{Bool, true, false, not, Bool·beq}
 use mathlib.Core.List.{List}
 use Prim.Native.Nat.{ℕ, _+_, _<_}
 use native.Mathlib.Omega.{arith}
-use lib.ListN.{length, set, length-set}
+use lib.ListN.{length, set}
 use borrow.Author.Count.{below-more}
 use Rattle.std.proofs.shelf.Tests.{both-ways, cases-bool}
 use Rattle.survey.specs.declared.leg.Leg.{Leg}
@@ -13,19 +13,13 @@ use Rattle.embedding.proofs.Distinct.{leg-stations}
 use Rattle.plan_check.specs.Marks.{marked, from-at, to-at, Sound, open-legs}
 use Rattle.plan_check.proofs.Spreading.{sound-more, open-falls}
 use Rattle.plan_check.proofs.connect.spread.Needs as need
-use Rattle.plan_check.proofs.connect.spread.Needs.{then-marks-from, else-marks-from}
+use Rattle.plan_check.proofs.connect.spread.Needs.{then-is-half-marked, else-is-half-marked}
 
-pub index-marks-from : need.index-marks-from
-index-marks-from c = let h = leg-stations (c .args .legs .now) (c .loop-i .i) (c .pre .valid) (omega arith) in let a = h .0 in omega arith
+pub is-half-marked-requires : need.is-half-marked-requires
+is-half-marked-requires c κs = let h = leg-stations (c .args .legs .now) (c .loop-i .i) (c .pre .valid) (omega arith) in let a = h .0 in let b = h .1 in (omega arith, omega arith)
 
-pub index-marks-to : need.index-marks-to
-index-marks-to c = let h = leg-stations (c .args .legs .now) (c .loop-i .i) (c .pre .valid) (omega arith) in let a = h .1 in omega arith
-
-pub index-marks-from-then-marks-from : need.index-marks-from-then-marks-from
-index-marks-from-then-marks-from c = let h = leg-stations (c .args .legs .now) (c .loop-i .i) (c .pre .valid) (omega arith) in let a = h .0 in omega arith
-
-pub index-marks-to-then-marks-from : need.index-marks-to-then-marks-from
-index-marks-to-then-marks-from c = let h = leg-stations (c .args .legs .now) (c .loop-i .i) (c .pre .valid) (omega arith) in let a = h .1 in simp length-set (omega arith)
+pub mark-both-requires : need.mark-both-requires
+mark-both-requires c κs = let h = leg-stations (c .args .legs .now) (c .loop-i .i) (c .pre .valid) (omega arith) in let a = h .0 in let b = h .1 in (omega arith, omega arith)
 
 differ : (x y : Bool) → not (Bool·beq x y) ≡ true → x ≡ y → ⊥
 differ true true h e = both-ways true (sym h) refl
@@ -75,7 +69,7 @@ loop-i-again c =
     let h = leg-stations legs i (c .pre .valid) (omega arith) in
     let la : from-at legs i < length (c .loop-i .marks) = let a = h .0 in omega arith in
     let lb : to-at legs i < length (c .loop-i .marks) = let a = h .1 in omega arith in
-    elim (c .if-marks-from .came) [
-      | then-marks-from w ↦ as-is legs (c .args .marks .now) _ _ (i + 1) _ _ (w .marks-is) (w .changed-is) (takes legs (c .args .marks .now) (c .loop-i .marks) i (c .loop-i .changed) (c .loop-i .inv) (omega arith) la lb (differ _ _ (w .if-marks-from .taken)))
-      | else-marks-from w ↦ as-is legs (c .args .marks .now) _ _ (i + 1) _ _ (w .marks-is) (w .changed-is) (keeps legs (c .args .marks .now) (c .loop-i .marks) i (c .loop-i .changed) (c .loop-i .inv) (agree _ _ (w .if-marks-from .left)))
+    elim (c .if-is-half-marked .came) [
+      | then-is-half-marked w ↦ as-is legs (c .args .marks .now) _ _ (i + 1) _ _ (w .marks-is ∙ w .mark-both .ensures) (w .changed-is) (takes legs (c .args .marks .now) (c .loop-i .marks) i (c .loop-i .changed) (c .loop-i .inv) (omega arith) la lb (differ _ _ (sym (w .if-is-half-marked .ensures tt))))
+      | else-is-half-marked w ↦ as-is legs (c .args .marks .now) _ _ (i + 1) _ _ (w .marks-is) (w .changed-is) (keeps legs (c .args .marks .now) (c .loop-i .marks) i (c .loop-i .changed) (c .loop-i .inv) (agree _ _ (sym (w .if-is-half-marked .ensures tt))))
     ]
