@@ -128,11 +128,11 @@ pub impl<'a> Survey for SurveyJournal<'a> as JournalSurvey {
         self.is_free()
     }
 
-    /// Legs may be struck and amended while an entry is free.
+    /// Legs may be struck and amended while a leg may be entered.
     fn may_amend(&self) -> bool
         ensures { λ r. ⌜ r ≡ has-free-entry (now (self .entry)) ⌝ }
     {
-        self.is_free()
+        self.may_enter()
     }
 
     fn leg(&self, i: usize) -> Result<Leg, Refusal>
@@ -182,11 +182,12 @@ pub impl<'a> Survey for SurveyJournal<'a> as JournalSurvey {
         match checks::check_amend(self.count_legs(), self.is_free(), start, end, attributes) {
             Err(e) => Err(e),
             Ok(()) => {
-                self.write(Change::Amend {
+                let change = Change::Amend {
                     start,
                     end,
                     attributes,
-                });
+                };
+                self.write(change);
                 Ok(())
             }
         }

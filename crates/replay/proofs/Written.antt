@@ -20,7 +20,6 @@ written-on entries m n [] ds e = let f : m ≡ n = omega arith in ap (λ (k : �
 written-on entries m n (c ∷ cs) ds e = written-on (set entries m c) (m + 1) n cs ds (omega arith)
 
 replayed-push : (cs : List Change) (c : Change) → replayed (cs ++ (c ∷ [])) ≡ changed (replayed cs) c
-unfolding replayed
 replayed-push cs c = folded-push changed [] cs c
 
 -- one entry more is taken

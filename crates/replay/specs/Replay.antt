@@ -14,5 +14,5 @@ changed legs (Strike start end) = strike-legs legs true start end
 changed legs (Amend start end x) = amend-legs legs true start end x
 
 -- the list after these accepted changes, from an empty one
-unfoldable pub replayed : List Change → List Leg
+abbrev pub replayed : List Change → List Leg
 replayed changes = folded changed [] changes

@@ -1,14 +1,17 @@
 // What a view shows of a leg, and the leg that it sends down.
 ghost use mathlib.Core.Path.{_≡_};
 ghost use Prim.Native.Nat.{_%_};
+ghost use lib.Dec.{ltb};
 ghost use Rattle.survey.specs.declared.leg.Leg.{Leg};
-ghost use Rattle.view_laws.specs.Views.{with-bearing as at-bearing, swapped as swapped-at, declination-shows, declination-sends, mirrored-shows, mirrored-sends, reversed-shows, reversed-sends};
+ghost use Rattle.view_laws.specs.Views.{with-bearing as at-bearing, swapped as swapped-at, turned, mirrored, declination-shows, declination-sends, mirrored-shows, mirrored-sends, reversed-shows, reversed-sends};
 ghost use Rattle.view_laws.specs.Laws.{ViewLaws};
 ghost use Rattle.view_laws.proofs.Three.{three-lawful};
 use survey::leg::Leg;
 
 /// A full circle in tenths of a degree.
 const CIRCLE: u32 = 3600;
+
+const HALF_CIRCLE: u32 = 1800;
 
 /// How a view shows the legs of the survey below it.
 pub trait View {
@@ -56,16 +59,16 @@ pub impl View for Declination as DeclinationView {
     fn show(&self, leg: Leg) -> Leg
         ensures { λ r. ⌜ r ≡ declination-shows (now (self .entry) .turn) leg ⌝ }
     {
-        with_bearing(leg, (leg.bearing % CIRCLE + self.turn % CIRCLE) % CIRCLE)
+        with_bearing(leg, turn_by(leg.bearing, self.turn))
     }
 
     fn send(&self, leg: Leg) -> Leg
         ensures { λ r. ⌜ r ≡ declination-sends (now (self .entry) .turn) leg ⌝ }
     {
-        if leg.bearing >= CIRCLE {
+        if is_over(leg.bearing) {
             return leg;
         }
-        with_bearing(leg, (leg.bearing + (CIRCLE - self.turn % CIRCLE)) % CIRCLE)
+        with_bearing(leg, turn_by(leg.bearing, CIRCLE - self.turn % CIRCLE))
     }
 }
 
@@ -83,16 +86,16 @@ pub impl View for Mirrored as MirroredView {
     fn show(&self, leg: Leg) -> Leg
         ensures { λ r. ⌜ r ≡ mirrored-shows leg ⌝ }
     {
-        with_bearing(leg, (CIRCLE - leg.bearing % CIRCLE) % CIRCLE)
+        with_bearing(leg, mirror(leg.bearing))
     }
 
     fn send(&self, leg: Leg) -> Leg
         ensures { λ r. ⌜ r ≡ mirrored-sends leg ⌝ }
     {
-        if leg.bearing >= CIRCLE {
+        if is_over(leg.bearing) {
             return leg;
         }
-        with_bearing(leg, (CIRCLE - leg.bearing % CIRCLE) % CIRCLE)
+        self.show(leg)
     }
 }
 
@@ -110,17 +113,38 @@ pub impl View for Reversed as ReversedView {
     fn show(&self, leg: Leg) -> Leg
         ensures { λ r. ⌜ r ≡ reversed-shows leg ⌝ }
     {
-        swapped(leg, (leg.bearing % CIRCLE + CIRCLE / 2) % CIRCLE)
+        swapped(leg, turn_by(leg.bearing, HALF_CIRCLE))
     }
 
     fn send(&self, leg: Leg) -> Leg
         ensures { λ r. ⌜ r ≡ reversed-sends leg ⌝ }
     {
-        if leg.bearing >= CIRCLE {
+        if is_over(leg.bearing) {
             return swapped(leg, leg.bearing);
         }
-        swapped(leg, (leg.bearing + CIRCLE / 2) % CIRCLE)
+        self.show(leg)
     }
+}
+
+// A bearing is over 3,599.
+fn is_over(bearing: u32) -> bool
+    ensures { λ r. ⌜ r ≡ ltb 3599 bearing ⌝ }
+{
+    bearing >= CIRCLE
+}
+
+// A bearing with a turn added.
+fn turn_by(bearing: u32, turn: u32) -> u32
+    ensures { λ r. ⌜ r ≡ turned turn bearing ⌝ }
+{
+    (bearing % CIRCLE + turn % CIRCLE) % CIRCLE
+}
+
+// 3,600 minus a bearing.
+fn mirror(bearing: u32) -> u32
+    ensures { λ r. ⌜ r ≡ mirrored bearing ⌝ }
+{
+    (CIRCLE - bearing % CIRCLE) % CIRCLE
 }
 
 // The leg at another bearing.

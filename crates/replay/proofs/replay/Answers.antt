@@ -14,11 +14,9 @@ use Rattle.replay.specs.Replay.{changed, replayed}
 use Rattle.replay.proofs.replay.Needs as need
 
 pub loop-i-holds : need.loop-i-holds
-unfolding replayed
 loop-i-holds c = (omega arith, refl)
 
 more : (cs : List Change) (i : ℕ) (d : Change) (xs zs : List Leg) → i < length cs → xs ≡ replayed (take i cs) → zs ≡ changed xs (getD cs i d) → zs ≡ replayed (take (i + 1) cs)
-unfolding replayed
 more cs i d xs zs h p q = q ∙ ap (λ (v : List Leg). changed v (getD cs i d)) p ∙ sym (folded-more changed [] cs i d h)
 
 pub loop-i-again : need.loop-i-again
