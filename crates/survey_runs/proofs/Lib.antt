@@ -1,0 +1,2 @@
+mod Layers
+mod Closed

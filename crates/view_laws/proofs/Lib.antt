@@ -1,0 +1,5 @@
+pub mod Bearings
+pub mod Swapped
+pub mod Three
+pub mod Shown
+pub mod Queried
