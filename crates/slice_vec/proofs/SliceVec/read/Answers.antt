@@ -36,9 +36,10 @@ returns-then-i-self g c =
     let v = c .args .self .now in
     let i = c .args .i in
     let h : (v .used ≤ i) ⊎ (length (v .places .now) ≤ i) =
-        elim (c .then-i-self .came) [
-          then-i-self·by·then-i-self w ↦ inl (w .if-i-self .taken)
-        | then-i-self·by·else-i-self·then-i-self-2 w ↦ inr (w .if-i-self-2 .taken) ] in
+    elim (c .then-i-self .came) [
+      | then-i-self·by·then-i-self w ↦ inl (w .if-i-self .taken)
+      | then-i-self·by·else-i-self·then-i-self-2 w ↦ inr (w .if-i-self-2 .taken)
+    ] in
     record { answer = past-answer (v .used) (length (v .places .now)) i h; item = none (v .places .now) (v .used) i h }
 
 pub returns : need.returns
@@ -49,4 +50,5 @@ returns g c =
     let q : i < length (v .places .now) = omega arith in
     record {
       answer = found-answer (v .used) (length (v .places .now)) i p q;
-      item = one (v .places .now) (v .used) i (c .at .result) p q (c .at .ensures) }
+      item = one (v .places .now) (v .used) i (c .at .result) p q (c .at .ensures);
+    }
