@@ -50,8 +50,8 @@ pub fn label_at<P: Price>(labels: &SliceVec<'_, Label<P>>, node: usize) -> Label
     }
 }
 
-// Puts a label in the place of a node's.
-fn set_label<P: Price>(labels: &mut SliceVec<'_, Label<P>>, node: usize, label: Label<P>)
+/// Puts a label in the place of a node's.
+pub fn set_label<P: Price>(labels: &mut SliceVec<'_, Label<P>>, node: usize, label: Label<P>)
     requires { ⌜ (node < now labels .used) × (node < length (now (now labels .places))) ⌝ }
     ensures places { λ _. ⌜ now (now (labels .exit) .places) ≡ set (now (now (labels .entry) .places)) node label ⌝ }
     ensures used { λ _. ⌜ now (labels .exit) .used ≡ now (labels .entry) .used ⌝ }
