@@ -5,7 +5,7 @@ use mathlib.Core.List.{List}
 use mathlib.Core.Logic.{_⊎_, inl, inr, ⊎-elim}
 use Prim.Native.Nat.{ℕ, _+_, _%_, _≤_, _<_}
 use native.Mathlib.Omega.{arith}
-use lib.Dec.{eqb}
+use lib.Dec.{eqb, ltb}
 use lib.ListN.{length}
 use Rattle.std.proofs.shelf.Tests.{cases-lt, cond-true, cond-false, cond-both, eq-eqb, ne-eqb, lt-ltb, le-ltb}
 use Rattle.price.specs.Laws.{Ops, Laws}
@@ -15,7 +15,7 @@ use Rattle.search.specs.declared.Side.{Side}
 use Rattle.search.specs.Labels.{label-at}
 use Rattle.search.specs.Moves.{Move, better, moved}
 use Rattle.search.specs.Paths.{Named}
-use Rattle.search.specs.Networks.{twin, Network, cost-by, move-by, move, Open, Usable}
+use Rattle.search.specs.Networks.{twin, Network, cost-of, cost-by, move-by, move, Open, Usable}
 use Rattle.search.specs.Sides.{side-at, fee-of, network, Keyed, Proper}
 use Rattle.search.proofs.Sweep.{Fit, AllFit}
 use Rattle.search.proofs.Twins.{twin-inside}
@@ -31,6 +31,10 @@ move-on ops w s a b h k = cond-false _ _ _ (le-ltb 0 a (omega arith)) ∙ cond-t
 pub move-none : {P : Type 0} (ops : Ops P) (w : Network P) (s a b : ℕ) → a ≡ 0 → w .room s ≤ b → move-by ops w s a b ≡ record { origin = w .node s; target = w .node s; cost = ops .zero; end = 65533 }
 unfolding move-by
 move-none ops w s a b h k = cond-false _ _ _ (le-ltb 0 a (omega arith)) ∙ cond-false _ _ _ (le-ltb b (w .room s) k)
+
+pub cost-is : {P : Type 0} (ops : Ops P) (w : Network P) (s a : ℕ) → cost-by ops w s a ≡ cost-of ops (w .fee s) a
+unfolding cost-by
+cost-is ops w s a = refl
 
 pub cost-back : {P : Type 0} (ops : Ops P) (w : Network P) (s a : ℕ) → 0 < a → cost-by ops w s a ≡ ops .minus (w .fee s)
 unfolding cost-by
@@ -135,6 +139,9 @@ module _ {P : Type 0} (ops : Ops P) (n : ℕ) (w : Network P) (side : ℕ → �
       let e = move-none ops w s (f (twin s)) (f s) (k .0) (k .1) in
       (λ i. from-at ops w side f (e i .target) (e i .end)) ∙ ap (λ (m : Move P). m .origin) (sym e)))
       (side-cases w f s)
+
+pub cost-small : {P : Type 0} {ops : Ops P} → Laws ops → (fee : P) (a : ℕ) → ops .size fee ≤ 2000 → ops .size (cost-of ops fee a) ≤ 2000
+cost-small {ops = ops} L fee a h = cond-both (ltb 0 a) (ops .minus fee) fee (λ z. ops .size z ≤ 2000) (λ _. let y = L .size-minus fee in omega arith) (λ _. h)
 
 -- the twin of a side is a side
 pub twin-within : (n : ℕ) (sides : List Side) → Proper n sides → (s back : ℕ) → s < length sides → back ≡ twin s → (back < length sides) × (back < 2048)

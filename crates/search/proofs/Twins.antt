@@ -6,18 +6,22 @@ use Prim.Native.Nat.{ℕ, _+_, _-_, _%_, _≤_, _<_}
 use native.Mathlib.Omega.{arith}
 use lib.Dec.{eqb}
 use Rattle.std.proofs.shelf.Tests.{cases-eq, cond-true, cond-false, eq-eqb, ne-eqb}
-use Rattle.search.specs.Networks.{twin}
+use Rattle.search.specs.Networks.{twin-of, twin}
 
-pub twin-even : (s : ℕ) → s % 2 ≡ 0 → twin s ≡ s + 1
+pub twin-by : (s r : ℕ) → r ≡ twin-of s → r ≡ twin s
+unfolding twin
+twin-by s r e = e
+
+twin-even : (s : ℕ) → s % 2 ≡ 0 → twin s ≡ s + 1
 unfolding twin
 twin-even s h = cond-true _ _ _ (eq-eqb (s % 2) 0 h)
 
-pub twin-odd : (s : ℕ) → (s % 2 ≡ 0 → ⊥) → twin s ≡ s - 1
+twin-odd : (s : ℕ) → (s % 2 ≡ 0 → ⊥) → twin s ≡ s - 1
 unfolding twin
 twin-odd s h = cond-false _ _ _ (ne-eqb (s % 2) 0 h)
 
 -- what omega needs of a twin
-pub twin-is : (s : ℕ) → ((s % 2 ≡ 0) × (twin s ≡ s + 1)) ⊎ ((s % 2 ≡ 1) × (twin s + 1 ≡ s))
+twin-is : (s : ℕ) → ((s % 2 ≡ 0) × (twin s ≡ s + 1)) ⊎ ((s % 2 ≡ 1) × (twin s + 1 ≡ s))
 twin-is s = ⊎-elim (λ h. inl (h, twin-even s h)) (λ h. let e = twin-odd s h in inr (omega arith, omega arith)) (cases-eq (s % 2) 0)
 
 pub twin-twin : (s : ℕ) → twin (twin s) ≡ s

@@ -1,12 +1,17 @@
 -- Labels, and what one try of a move does to them. The end 65535 says that there is no price, 65534 that the node is a root.
 use mathlib.Core.Path.{_≡_}
 use mathlib.Core.Bool.{Bool, true, not, cond, _&&_}
-use mathlib.Core.List.{List}
+use mathlib.Core.List.{List, [], _∷_}
 use Prim.Native.Nat.{ℕ, _≤_, _<_}
 use lib.Dec.{eqb}
 use lib.ListN.{getD, set}
 use Rattle.price.specs.Laws.{Ops}
 use Rattle.search.specs.declared.Label.{Label}
+
+-- the first of a list, or x where it is empty
+abbrev pub first-of : {A : Type 0} → A → List A → A
+first-of x [] = x
+first-of x (y ∷ ys) = y
 
 -- a label without a price
 abbrev pub blank : {P : Type 0} → Ops P → Label P
@@ -19,9 +24,13 @@ label-at ops labels v = getD labels v (blank ops)
 abbrev pub reached : {P : Type 0} → Label P → Bool
 reached m = not (eqb (m .end) 65535)
 
+-- a price is better than a label: it has none, or a higher one
+abbrev pub below : {P : Type 0} → Ops P → Label P → P → Bool
+below ops b price = not (reached b && ops .leq (b .price) price)
+
 -- a move from a to b is worth storing: a has a price, and b has none or a higher one
 abbrev pub improves : {P : Type 0} → Ops P → Label P → Label P → P → Bool
-improves ops a b cost = reached a && not (reached b && ops .leq (b .price) (ops .plus (a .price) cost))
+improves ops a b cost = reached a && below ops b (ops .plus (a .price) cost)
 
 -- the label that is come by from a, at this cost and by this end
 abbrev pub came : {P : Type 0} → Ops P → Label P → P → ℕ → Label P

@@ -9,8 +9,12 @@ use Rattle.price.specs.Laws.{Ops}
 use Rattle.search.specs.Moves.{Move}
 
 -- the two sides of a pair are 2k and 2k + 1
+abbrev pub twin-of : ℕ → ℕ
+twin-of s = cond (eqb (s % 2) 0) (s + 1) (s - 1)
+
+-- the same, kept shut in proofs
 unfoldable pub twin : ℕ → ℕ
-twin s = cond (eqb (s % 2) 0) (s + 1) (s - 1)
+twin s = twin-of s
 
 -- how many units side s carries, or node s wants or gives
 abbrev pub units : List ℕ → ℕ → ℕ
@@ -24,9 +28,13 @@ pub record Network (P : Type 0) : Type 0 where
   pub room : ℕ → ℕ
   pub fee : ℕ → P
 
--- what one unit over side s costs, where a units came the other way: it first takes back one that came
+-- what one unit costs at this fee, where a units came the other way: it first takes back one that came
+abbrev pub cost-of : {P : Type 0} → Ops P → P → ℕ → P
+cost-of ops fee a = cond (ltb 0 a) (ops .minus fee) fee
+
+-- what one unit over side s costs
 unfoldable pub cost-by : {P : Type 0} → Ops P → Network P → ℕ → ℕ → P
-cost-by ops w s a = cond (ltb 0 a) (ops .minus (w .fee s)) (w .fee s)
+cost-by ops w s a = cost-of ops (w .fee s) a
 
 -- the move over side s, where a units came the other way and b went this way; a side that is not open leads nowhere, by the end 65533
 unfoldable pub move-by : {P : Type 0} → Ops P → Network P → ℕ → ℕ → ℕ → Move P

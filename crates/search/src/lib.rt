@@ -4,10 +4,11 @@ ghost use mathlib.Core.Bool.{true, false};
 ghost use Prim.Native.Nat.{ℕ, _+_, _^_, _<_, _≤_};
 ghost use lib.ListN.{length, set, take};
 ghost use denote.Ref.{name};
-ghost use Rattle.search.specs.Labels.{blank, label-at, improves, tried, Lower, Roots, Sized, Fresh};
+ghost use Rattle.slice_vec.specs.Places.{at-item};
+ghost use Rattle.search.specs.Labels.{first-of, blank, label-at, below, improves, tried, Lower, Roots, Sized, Fresh};
 ghost use Rattle.search.specs.Moves.{State, better, moved, swept};
 ghost use Rattle.search.specs.Paths.{Safe, Named, Settled};
-ghost use Rattle.search.specs.Networks.{twin as other};
+ghost use Rattle.search.specs.Networks.{twin-of, cost-of};
 ghost use Rattle.search.specs.Sides.{fee-of, residual, Proper, Within-room};
 use price::Price;
 use price::Tariff;
@@ -39,7 +40,7 @@ pub struct Side {
 
 /// The label of a node; one without a price where no label in use is the node's.
 pub fn label_at<P: Price>(labels: &SliceVec<'_, Label<P>>, node: usize) -> Label<P>
-    ensures { λ r. ⌜ r ≡ label-at (P·Price .ops) (take (now (labels .entry) .used) (now (now (labels .entry) .places))) node ⌝ }
+    ensures { λ r. ⌜ r ≡ first-of (blank (P·Price .ops)) (at-item (now (now (labels .entry) .places)) (now (labels .entry) .used) node) ⌝ }
 {
     match labels.read(node) {
         Ok(label) => label,
@@ -103,18 +104,24 @@ pub fn try_move<P: Price>(
         return false;
     }
     let price = from.price.add(cost);
-    let old = label_at(labels, target);
-    if old.end != NO_PRICE && old.price.at_most(price) {
+    if !beats(price, label_at(labels, target)) {
         return false;
     }
     set_label(labels, target, Label { price, end });
     true
 }
 
+// Whether a price is better than a label: it has none, or a higher one.
+fn beats<P: Price>(price: P, label: Label<P>) -> bool
+    ensures { λ r. ⌜ r ≡ below (P·Price .ops) label price ⌝ }
+{
+    label.end == NO_PRICE || !label.price.at_most(price)
+}
+
 /// The other side of a pair.
 pub fn twin(s: usize) -> usize
     requires { ⌜ s < 2 ^ 32 ⌝ }
-    ensures { λ r. ⌜ r ≡ other s ⌝ }
+    ensures { λ r. ⌜ r ≡ twin-of s ⌝ }
 {
     if s % 2 == 0 { s + 1 } else { s - 1 }
 }
@@ -132,8 +139,15 @@ pub fn fee<T: Tariff>(tariff: &T, side: Side) -> T::Price
     bend.add(bend)
 }
 
+/// What one unit over a side costs, where so many came the other way: it first takes back one that came, and its fee with it.
+pub fn step_cost<P: Price>(fee: P, back: u16) -> P
+    requires { ⌜ P·Price .ops .size fee ≤ 2000 ⌝ }
+    ensures { λ r. ⌜ r ≡ cost-of (P·Price .ops) fee back ⌝ }
+{
+    if back > 0 { fee.neg() } else { fee }
+}
+
 // Tries to lead on over side s, and tells whether the node it leads to has a better label.
-// Where units came the other way, a unit over s takes one of them back, and its fee with it.
 fn try_side<T: Tariff>(
     tariff: &T,
     sides: &[Side],
@@ -151,18 +165,15 @@ fn try_side<T: Tariff>(
     ensures used { λ _. ⌜ now (labels .exit) .used ≡ now (labels .entry) .used ⌝ }
     ensures lender { λ _. ⌜ name (now (labels .exit) .places) ≡ name (now (labels .entry) .places) ⌝ }
 {
-    let back = twin(s);
     let side = sides[s];
+    let back = twin(s);
     let origin = sides[back].node as usize;
-    if flow[back] > 0 {
-        let cost = fee(tariff, side).neg();
-        return try_move(labels, origin, side.node as usize, cost, side.end);
+    let came = flow[back];
+    if came == 0 && flow[s] >= side.room {
+        return false;
     }
-    if flow[s] < side.room {
-        let cost = fee(tariff, side);
-        return try_move(labels, origin, side.node as usize, cost, side.end);
-    }
-    false
+    let cost = step_cost(fee(tariff, side), came);
+    try_move(labels, origin, side.node as usize, cost, side.end)
 }
 
 // Tries each side once, and tells whether a label has changed.

@@ -132,10 +132,11 @@ module _ {P : Type 0} {ops : Ops P} (L : Laws ops) (n : ℕ) (w : Network P) (ke
 
     -- where `side` tells the side that each label came by, every labelled node has a way back
     module _ (side : ℕ → ℕ) (indexed : (s : ℕ) → s < w .count → Usable w s → label (w .node s) .end ≡ w .end s → side (w .node s) ≡ s) where
-      pub way : {v k : ℕ} → Chain (from-at ops w key f) label v k → Way ops w side label f v k
-      way (root e) = chains.root e
+      pub way : {v k : ℕ} → Chain (from-at ops w key f) label v k → (u : ℕ) × Way ops w side label f v u k
+      way {v} (root e) = (v, chains.root e)
       way {v} (back {k = k} h c) =
           let b = by-side v h in
           let t = b .1 .tight in
           let is : side v ≡ b .0 = ap side (sym (t .to)) ∙ indexed (b .0) (t .inside) (usable ops n w key sound f fits (b .0) (t .inside) (t .free)) (ap (λ z. label z .end) (t .to) ∙ sym (t .by)) in
-          chains.back h (subst (Tight ops w label f v) (sym is) t) (subst (λ z. Way ops w side label f z k) (b .1 .from ∙ ap (λ z. w .node (twin z)) (sym is)) (way c))
+          let on = way c in
+          (on .0, chains.back h (subst (Tight ops w label f v) (sym is) t) (subst (λ z. Way ops w side label f z (on .0) k) (b .1 .from ∙ ap (λ z. w .node (twin z)) (sym is)) (on .1)))

@@ -1,7 +1,8 @@
 -- What a least flow over paired sides is, and when there is none.
 use mathlib.Core.Path.{_≡_}
-use mathlib.Core.Bool.{true}
+use mathlib.Core.Bool.{true, cond}
 use Prim.Native.Nat.{ℕ, _+_, _<_}
+use lib.Dec.{ltb}
 use Rattle.price.specs.Laws.{Ops}
 use Rattle.duality.specs.Flows.{Net, into, out-of, Fits, Meets, price-of}
 use Rattle.search.specs.Networks.{twin, Network}
@@ -36,3 +37,7 @@ Answered ops n w p q f Infeasible = NoFlow n w p q
 -- of the demands p and q, f leaves `short` wanted and `over` ungiven
 abbrev pub Leaves : {P : Type 0} → ℕ → Network P → (p q short over f : ℕ → ℕ) → Type 0
 Leaves n w p q short over f = (v : ℕ) → v < n → into (arcs n w) f v + q v + short v ≡ out-of (arcs n w) f v + p v + over v
+
+-- the outcome where nothing is left to give: least, unless a node below n still wants a unit; `first` is the first that does
+abbrev pub judged : (first n : ℕ) → Outcome
+judged first n = cond (ltb first n) Infeasible Least

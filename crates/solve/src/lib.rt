@@ -2,26 +2,27 @@
 ghost use mathlib.Core.Path.{_≡_};
 ghost use mathlib.Core.Bool.{true, false};
 ghost use mathlib.Core.Logic.{_⊎_};
-ghost use Prim.Native.Nat.{ℕ, _+_, _%_, _<_, _≤_};
+ghost use Prim.Native.Nat.{ℕ, _%_, _^_, _<_, _≤_};
 ghost use lib.ListN.{length, getD, take};
 ghost use denote.Ref.{name};
 ghost use Rattle.duality.specs.Flows.{Fits};
-ghost use Rattle.duality.specs.Sums.{sum};
-ghost use Rattle.search.specs.Labels.{label-at, reached};
+ghost use Rattle.search.specs.Labels.{label-at, reached, Sized};
 ghost use Rattle.search.specs.Networks.{twin as other, units};
 ghost use Rattle.search.specs.Sides.{side-at, network, Proper};
-ghost use Rattle.solve.specs.Solutions.{arcs, OneWay, NoFlow, Answered, Leaves};
-ghost use Rattle.solve.specs.Chains.{Push, Way, Sent, Seeded, Indexed, Underway, Onward};
+ghost use Rattle.solve.specs.Solutions.{arcs, OneWay, NoFlow, Answered, Leaves, judged};
+ghost use Rattle.solve.specs.Chains.{Push, Tight, Way, Supplied, Sent, Seeded, Indexed, Underway, Labelled, Onward, less-one, total};
 use price::Price;
 use price::Tariff;
 use search::Label;
 use search::NO_PRICE;
 use search::ROOT;
 use search::Side;
+use search::fee;
 use search::label_at;
 use search::make_labels;
 use search::set_label;
 use search::settle;
+use search::step_cost;
 use search::twin;
 use slice_vec::SliceVec;
 
@@ -54,6 +55,14 @@ fn push(sides: &[Side], flow: &mut [u16], s: usize)
     } else {
         flow[s] += 1;
     }
+}
+
+// One unit less at node v.
+fn take_unit(left: &mut [u16], v: usize)
+    requires { ⌜ (v < length (now left)) × (0 < units (now left) v) ⌝ }
+    ensures { λ _. ⌜ now (left .exit) ≡ less-one (now (left .entry)) v ⌝ }
+{
+    left[v] -= 1;
 }
 
 // The first node with units, or the count of nodes.
@@ -134,6 +143,70 @@ fn taker<P: Price>(labels: &SliceVec<'_, Label<P>>, wants: &[u16]) -> usize
     wants.len()
 }
 
+// Whether side s leads to node `at` by the end of its label, is open, and leads there at just the label's price.
+fn is_tight<T: Tariff>(
+    tariff: &T,
+    sides: &[Side],
+    flow: &[u16],
+    labels: &SliceVec<'_, Label<T::Price>>,
+    nodes: usize,
+    at: usize,
+    s: usize,
+) -> bool
+    requires proper { ⌜ Proper nodes (now sides) ⌝ }
+    requires inside { ⌜ (length (now flow) ≡ length (now sides)) × (at < nodes) ⌝ }
+    requires labels { ⌜ (nodes ≤ now labels .used) × (nodes ≤ length (now (now labels .places))) ⌝ }
+    requires small { ⌜ Sized (Price·Price .ops) nodes (2 ^ 38) (now (now labels .places)) ⌝ }
+    ensures { λ r. ⌜ (r ≡ true → Tight (Price·Price .ops) (network (Price·Price .ops) (T·Tariff .rate (now (tariff .entry))) (now (sides .entry))) (label-at (Price·Price .ops) (take nodes (now (now (labels .entry) .places)))) (units (now (flow .entry))) at s) ⌝ }
+{
+    if s >= sides.len() {
+        return false;
+    }
+    let side = sides[s];
+    let label = label_at(labels, at);
+    if side.node as usize != at || side.end != label.end {
+        return false;
+    }
+    let back = twin(s);
+    let came = flow[back];
+    if came == 0 && flow[s] >= side.room {
+        return false;
+    }
+    let cost = step_cost(fee(tariff, side), came);
+    let price = label_at(labels, sides[back].node as usize).price.add(cost);
+    price.at_most(label.price) && label.price.at_most(price)
+}
+
+// Whether a unit can be sent to v: its way back is open at just the labels' prices, and ends at a root that has a unit left to give.
+fn is_supplied<T: Tariff>(
+    tariff: &T,
+    sides: &[Side],
+    flow: &[u16],
+    gives: &[u16],
+    labels: &SliceVec<'_, Label<T::Price>>,
+    came_by: &[u16],
+    v: usize,
+) -> bool
+    requires proper { ⌜ Proper (length (now gives)) (now sides) ⌝ }
+    requires inside { ⌜ (length (now flow) ≡ length (now sides)) × (v < length (now gives)) × (length (now gives) ≤ length (now «came_by»)) ⌝ }
+    requires labels { ⌜ (length (now gives) ≤ now labels .used) × (length (now gives) ≤ length (now (now labels .places))) ⌝ }
+    requires small { ⌜ Sized (Price·Price .ops) (length (now gives)) (2 ^ 38) (now (now labels .places)) ⌝ }
+    ensures { λ r. ⌜ (r ≡ true → Supplied (Price·Price .ops) (network (Price·Price .ops) (T·Tariff .rate (now (tariff .entry))) (now (sides .entry))) (units (now («came_by» .entry))) (label-at (Price·Price .ops) (take (length (now (gives .entry))) (now (now (labels .entry) .places)))) (units (now (flow .entry))) (units (now (gives .entry))) v) ⌝ }
+{
+    let mut at = v;
+    for _ in 0..gives.len() {
+        if label_at(labels, at).end == ROOT {
+            return gives[at] > 0;
+        }
+        let s = came_by[at] as usize;
+        if !is_tight(tariff, sides, flow, labels, gives.len(), at, s) {
+            return false;
+        }
+        at = sides[twin(s)].node as usize;
+    }
+    false
+}
+
 // Sends one unit to v along its way back, and tells from which root.
 fn send<T: Tariff>(
     tariff: &T,
@@ -148,8 +221,9 @@ fn send<T: Tariff>(
     requires inside { ⌜ (length (now flow) ≡ length (now sides)) × (v < nodes) × (nodes ≤ length (now «came_by»)) ⌝ }
     requires labels { ⌜ (nodes ≤ now labels .used) × (nodes ≤ length (now (now labels .places))) ⌝ }
     requires fits { ⌜ Fits (arcs nodes (network (Price·Price .ops) (T·Tariff .rate (now tariff)) (now sides))) (units (now flow)) × OneWay (network (Price·Price .ops) (T·Tariff .rate (now tariff)) (now sides)) (units (now flow)) ⌝ }
-    requires way { ⌜ ((k : ℕ) × Way (Price·Price .ops) (network (Price·Price .ops) (T·Tariff .rate (now tariff)) (now sides)) (units (now «came_by»)) (label-at (Price·Price .ops) (take nodes (now (now labels .places)))) (units (now flow)) v k) ⌝ }
-    ensures { λ u. ⌜ Sent (Price·Price .ops) nodes (network (Price·Price .ops) (T·Tariff .rate (now (tariff .entry))) (now (sides .entry))) (label-at (Price·Price .ops) (take nodes (now (now (labels .entry) .places)))) (units (now (flow .entry))) (units (now (flow .exit))) v u ⌝ }
+    requires way { ⌜ ((u k : ℕ) × Way (Price·Price .ops) (network (Price·Price .ops) (T·Tariff .rate (now tariff)) (now sides)) (units (now «came_by»)) (label-at (Price·Price .ops) (take nodes (now (now labels .places)))) (units (now flow)) v u k) ⌝ }
+    ensures sent { λ u. ⌜ Sent (Price·Price .ops) nodes (network (Price·Price .ops) (T·Tariff .rate (now (tariff .entry))) (now (sides .entry))) (label-at (Price·Price .ops) (take nodes (now (now (labels .entry) .places)))) (units (now (flow .entry))) (units (now (flow .exit))) v u ⌝ }
+    ensures root { λ r. ⌜ ((u k : ℕ) → Way (Price·Price .ops) (network (Price·Price .ops) (T·Tariff .rate (now (tariff .entry))) (now (sides .entry))) (units (now («came_by» .entry))) (label-at (Price·Price .ops) (take nodes (now (now (labels .entry) .places)))) (units (now (flow .entry))) v u k → r ≡ u) ⌝ }
 {
     let mut at = v;
     for _ in 0..nodes {
@@ -163,7 +237,33 @@ fn send<T: Tariff>(
     at
 }
 
-// One search from the nodes that have units left, and a unit to a labelled node that wants one; false where there is none such.
+// Sends one unit to v, and takes it off the demands.
+fn ship<T: Tariff>(
+    tariff: &T,
+    sides: &[Side],
+    flow: &mut [u16],
+    wants: &mut [u16],
+    gives: &mut [u16],
+    labels: &SliceVec<'_, Label<T::Price>>,
+    came_by: &[u16],
+    v: usize,
+)
+    requires proper { ⌜ Proper (length (now wants)) (now sides) ⌝ }
+    requires inside { ⌜ (length (now flow) ≡ length (now sides)) × (length (now gives) ≡ length (now wants)) × (v < length (now wants)) × (length (now wants) ≤ length (now «came_by»)) ⌝ }
+    requires labels { ⌜ (length (now wants) ≤ now labels .used) × (length (now wants) ≤ length (now (now labels .places))) ⌝ }
+    requires labelled { ⌜ Labelled (Price·Price .ops) (length (now wants)) (network (Price·Price .ops) (T·Tariff .rate (now tariff)) (now sides)) (label-at (Price·Price .ops) (take (length (now wants)) (now (now labels .places)))) (units (now flow)) ⌝ }
+    requires some { ⌜ (0 < units (now wants) v) × Supplied (Price·Price .ops) (network (Price·Price .ops) (T·Tariff .rate (now tariff)) (now sides)) (units (now «came_by»)) (label-at (Price·Price .ops) (take (length (now wants)) (now (now labels .places)))) (units (now flow)) (units (now gives)) v ⌝ }
+    ensures labelled { λ _. ⌜ Labelled (Price·Price .ops) (length (now (wants .entry))) (network (Price·Price .ops) (T·Tariff .rate (now (tariff .entry))) (now (sides .entry))) (label-at (Price·Price .ops) (take (length (now (wants .entry))) (now (now (labels .entry) .places)))) (units (now (flow .exit))) ⌝ }
+    ensures onward { λ _. ⌜ Onward (length (now (wants .entry))) (network (Price·Price .ops) (T·Tariff .rate (now (tariff .entry))) (now (sides .entry))) (units (now (wants .entry))) (units (now (gives .entry))) (units (now (flow .entry))) (units (now (wants .exit))) (units (now (gives .exit))) (units (now (flow .exit))) ⌝ }
+    ensures want { λ _. ⌜ now (wants .exit) ≡ less-one (now (wants .entry)) v ⌝ }
+    ensures less { λ _. ⌜ total (length (now (wants .entry))) (now (gives .exit)) < total (length (now (wants .entry))) (now (gives .entry)) ⌝ }
+{
+    let u = send(tariff, sides, flow, labels, came_by, wants.len(), v);
+    take_unit(wants, v);
+    take_unit(gives, u);
+}
+
+// One search from the nodes that have units left, and a unit to the first labelled node that wants one; false where there is none such.
 fn advance<T: Tariff>(
     tariff: &T,
     sides: &[Side],
@@ -180,24 +280,32 @@ fn advance<T: Tariff>(
     requires some { ⌜ ((v : ℕ) × (v < length (now wants)) × (0 < units (now gives) v)) ⌝ }
     ensures underway { λ _. ⌜ Underway (Price·Price .ops) (length (now (wants .entry))) (network (Price·Price .ops) (T·Tariff .rate (now (tariff .entry))) (now (sides .entry))) (units (now (flow .exit))) ⌝ }
     ensures onward { λ _. ⌜ Onward (length (now (wants .entry))) (network (Price·Price .ops) (T·Tariff .rate (now (tariff .entry))) (now (sides .entry))) (units (now (wants .entry))) (units (now (gives .entry))) (units (now (flow .entry))) (units (now (wants .exit))) (units (now (gives .exit))) (units (now (flow .exit))) ⌝ }
-    ensures less { λ r. ⌜ (r ≡ true → sum 0 _+_ (length (now (wants .entry))) (units (now (gives .exit))) < sum 0 _+_ (length (now (wants .entry))) (units (now (gives .entry)))) ⌝ }
+    ensures less { λ r. ⌜ (r ≡ true → total (length (now (wants .entry))) (now (gives .exit)) < total (length (now (wants .entry))) (now (gives .entry))) ⌝ }
     ensures stuck { λ r. ⌜ (r ≡ false → ((p q : ℕ → ℕ) → Leaves (length (now (wants .entry))) (network (Price·Price .ops) (T·Tariff .rate (now (tariff .entry))) (now (sides .entry))) p q (units (now (wants .entry))) (units (now (gives .entry))) (units (now (flow .entry))) → NoFlow (length (now (wants .entry))) (network (Price·Price .ops) (T·Tariff .rate (now (tariff .entry))) (now (sides .entry))) p q)) ⌝ }
     ensures used { λ _. ⌜ now (labels .exit) .used ≡ now (labels .entry) .used ⌝ }
     ensures long { λ _. ⌜ length (now (now (labels .exit) .places)) ≡ length (now (now (labels .entry) .places)) ⌝ }
     ensures lender { λ _. ⌜ name (now (labels .exit) .places) ≡ name (now (labels .entry) .places) ⌝ }
 {
-    let nodes = wants.len();
     seed(labels, gives);
-    settle(tariff, sides, flow, labels, nodes);
+    settle(tariff, sides, flow, labels, wants.len());
     let v = taker(labels, wants);
-    if v >= nodes {
+    if v >= wants.len() {
         return false;
     }
-    index_sides(sides, labels, nodes, came_by);
-    let u = send(tariff, sides, flow, labels, came_by, nodes, v);
-    wants[v] -= 1;
-    gives[u] -= 1;
+    index_sides(sides, labels, wants.len(), came_by);
+    ship(tariff, sides, flow, wants, gives, labels, came_by, v);
     true
+}
+
+// The outcome where nothing is left to give, and `unmet` is the first node that wants a unit.
+fn judge(unmet: usize, nodes: usize) -> Outcome
+    ensures { λ r. ⌜ r ≡ judged unmet nodes ⌝ }
+{
+    if unmet < nodes {
+        Outcome::Infeasible
+    } else {
+        Outcome::Least
+    }
 }
 
 /// Finds a flow of least price that meets the demands, or tells that none does. Node v wants `wants[v]` units and gives `gives[v]`;
@@ -227,9 +335,5 @@ pub fn solve<T: Tariff>(
             return Outcome::Infeasible;
         }
     }
-    if first(wants) < nodes {
-        Outcome::Infeasible
-    } else {
-        Outcome::Least
-    }
+    judge(first(wants), nodes)
 }

@@ -77,6 +77,3 @@ loop-again g c =
       done .long ∙ c .loop .inv .4,
       c .round .ensures .lender ∙ c .loop .inv .5,
     )
-
-pub returns : need.returns
-returns g c = let i = c .loop .inv .2 .inside in absurd (omega (arith, c .loop-test .left))

@@ -6,9 +6,10 @@ use Prim.Native.Nat.{ℕ, _+_, _≤_, _<_}
 use native.Mathlib.Omega.{arith}
 use lib.ListN.{length, set, take}
 use Rattle.std.proofs.shelf.Tests.{cases-eq}
+use Rattle.slice_vec.specs.Places.{at-item}
 use Rattle.search.specs.declared.Label.{Label}
 use Rattle.search.specs.declared.Side.{Side}
-use Rattle.search.specs.Labels.{label-at}
+use Rattle.search.specs.Labels.{first-of, blank, label-at}
 use Rattle.search.specs.Networks.{twin, units}
 use Rattle.search.specs.Sides.{side-at, Proper}
 use Rattle.search.proofs.Sweep.{at-set}
@@ -51,7 +52,7 @@ loop-s-again g c =
     let s = c .loop-s .s in
     let lt = c .loop-s-test .taken in
     let end : ℕ → ℕ = λ z. label-at (g .P·Price .ops) (take n (v .places .now)) z .end in
-    let read : (r : Label (g .P .Denot)) → r ≡ label-at (g .P·Price .ops) (take (v .used) (v .places .now)) (side-at sides s .node) → r .end ≡ end (side-at sides s .node) =
+    let read : (r : Label (g .P .Denot)) → r ≡ first-of (blank (g .P·Price .ops)) (at-item (v .places .now) (v .used) (side-at sides s .node)) → r .end ≡ end (side-at sides s .node) =
     λ r e. ap (λ (m : Label (g .P .Denot)). m .end) (label-read (g .P·Price .ops) n (v .used) (v .places .now) (side-at sides s .node) r (c .pre .proper .inside s lt) (c .pre .labels .0) e) in
     elim (c .if-usable .came) [
       | then-usable·then-label-at-side w ↦

@@ -1,14 +1,17 @@
 -- Nothing is shipped at first; each search ships a unit or shows that there is no flow; at the end the flow is least, or the demands do not add up.
 use mathlib.Core.Path.{_≡_, refl, sym, subst, _∙_}
-use mathlib.Core.List.{List}
 use Prim.Native.Nat.{ℕ, _<_, _≤_}
 use native.Mathlib.Omega.{arith}
+use lib.Dec.{ltb}
 use lib.ListN.{length}
+use borrow.Author.Tests.{ltb-true, ltb-false}
+use Rattle.std.proofs.shelf.Tests.{cond-both}
 use Rattle.search.specs.Networks.{units}
 use Rattle.search.specs.Sides.{network}
 use Rattle.search.proofs.Residual.{sound}
-use Rattle.solve.specs.Solutions.{Leaves, NoFlow}
-use Rattle.solve.specs.Chains.{Underway, Onward}
+use Rattle.solve.specs.declared.Outcome.the-variants.{Least, Infeasible}
+use Rattle.solve.specs.Solutions.{Answered, Leaves, NoFlow}
+use Rattle.solve.specs.Chains.{Underway}
 use Rattle.solve.proofs.Progress.{underway-start, leaves-start, met, unmet}
 use Rattle.solve.proofs.solve.Needs as need
 
@@ -63,8 +66,8 @@ loop-came-by-again g c =
       en .lender ∙ c .loop-came-by .inv .5,
     )
 
-pub returns-then-first-nodes : need.returns-then-first-nodes
-returns-then-first-nodes g c =
+pub returns : need.returns
+returns g c =
     let o = g .Price·Price .ops in
     let L = g .Price·Price·met .laws in
     let t = c .args .tariff .now in
@@ -73,31 +76,18 @@ returns-then-first-nodes g c =
     let pr = c .pre .proper in
     let w = network o (g .T·Tariff .rate t) sides in
     let sd = sound L n (g .T·Tariff .rate t) sides pr (g .T·Tariff·met .low t) (g .T·Tariff·met .small t) (pr .keyed .0) (pr .keyed .1) in
+    let P = units (c .args .wants .now) in
+    let Q = units (c .args .gives .now) in
+    let short = units (c .loop-came-by .wants) in
+    let over = units (c .loop-came-by .gives) in
+    let f = units (c .loop-came-by .flow) in
     let inv = c .loop-came-by .inv in
+    let given : (v : ℕ) → v < n → over v ≡ 0 = λ v b. c .first .ensures .none v (omega (arith, c .loop-came-by-test .left)) in
     record {
-      answered = unmet L n w (pr .keyed .0) sd (units (c .args .wants .now)) (units (c .args .gives .now)) (units (c .loop-came-by .wants)) (units (c .loop-came-by .gives)) (units (c .loop-came-by .flow)) (inv .1)
-          (λ v b. c .first .ensures .none v (omega (arith, c .loop-came-by-test .left)))
-          (c .first-2 .result) (c .if-first-nodes .taken) (c .first-2 .ensures .some (omega (arith, c .if-first-nodes .taken, c .loop-came-by .kept .wants)));
-      leaves = inv .1;
-      long = inv .4 ∙ c .make-labels .ensures .long;
-      lender = inv .5 ∙ c .make-labels .ensures .lender;
-    }
-
-pub returns-else-first-nodes : need.returns-else-first-nodes
-returns-else-first-nodes g c =
-    let o = g .Price·Price .ops in
-    let L = g .Price·Price·met .laws in
-    let t = c .args .tariff .now in
-    let n = length (c .args .wants .now) in
-    let sides = c .args .sides .now in
-    let pr = c .pre .proper in
-    let w = network o (g .T·Tariff .rate t) sides in
-    let sd = sound L n (g .T·Tariff .rate t) sides pr (g .T·Tariff·met .low t) (g .T·Tariff·met .small t) (pr .keyed .0) (pr .keyed .1) in
-    let inv = c .loop-came-by .inv in
-    record {
-      answered = met L n w (pr .keyed .0) sd (units (c .args .wants .now)) (units (c .args .gives .now)) (units (c .loop-came-by .wants)) (units (c .loop-came-by .gives)) (units (c .loop-came-by .flow)) (inv .0) (inv .1)
-          (λ v b. c .first .ensures .none v (omega (arith, c .loop-came-by-test .left)))
-          (λ v b. c .first-2 .ensures .none v (omega (arith, c .if-first-nodes .left)));
+      answered = subst (Answered o n w P Q f) (sym (c .judge .ensures))
+          (cond-both (ltb (c .first-2 .result) n) Infeasible Least (Answered o n w P Q f)
+          (λ h. let k = ltb-true _ _ h in unmet L n w (pr .keyed .0) sd P Q short over f (inv .1) given (c .first-2 .result) k (c .first-2 .ensures .some (omega (arith, c .loop-came-by .kept .wants))))
+          (λ h. let k = ltb-false _ _ h in met L n w (pr .keyed .0) sd P Q short over f (inv .0) (inv .1) given (λ v b. c .first-2 .ensures .none v (omega arith))));
       leaves = inv .1;
       long = inv .4 ∙ c .make-labels .ensures .long;
       lender = inv .5 ∙ c .make-labels .ensures .lender;

@@ -1,13 +1,12 @@
 -- The flow is underway, and what it leaves is told in the demands' places; each search sends a unit.
 use mathlib.Core.Path.{_≡_}
-use Prim.Native.Nat.{_+_, _≤_}
+use Prim.Native.Nat.{_≤_}
 use lib.ListN.{length}
 use denote.Ref.{name}
-use Rattle.duality.specs.Sums.{sum}
 use Rattle.search.specs.Networks.{units}
 use Rattle.search.specs.Sides.{network}
 use Rattle.solve.specs.Solutions.{Leaves}
-use Rattle.solve.specs.Chains.{Underway}
+use Rattle.solve.specs.Chains.{Underway, total}
 use Rattle.solve.proofs.solve.Given as given
 
 abbrev pub Inv-loop-came-by : given.InvT-loop-came-by
@@ -21,4 +20,4 @@ Inv-loop-came-by g l =
     × (name (l .labels .places) ≡ name (l .entry .labels .places))
 
 abbrev pub μ-loop-came-by : given.MeasureT-loop-came-by
-μ-loop-came-by g l = sum 0 _+_ (length (l .entry .wants)) (units (l .gives))
+μ-loop-came-by g l = total (length (l .entry .wants)) (l .gives)
