@@ -263,7 +263,56 @@ fn ship<T: Tariff>(
     take_unit(gives, u);
 }
 
-// One search from the nodes that have units left, and a unit to the first labelled node that wants one; false where there is none such.
+// Sends units to v while it wants one and can be supplied.
+fn fill_node<T: Tariff>(
+    tariff: &T,
+    sides: &[Side],
+    flow: &mut [u16],
+    wants: &mut [u16],
+    gives: &mut [u16],
+    labels: &SliceVec<'_, Label<T::Price>>,
+    came_by: &[u16],
+    v: usize,
+)
+    requires proper { ⌜ Proper (length (now wants)) (now sides) ⌝ }
+    requires inside { ⌜ (length (now flow) ≡ length (now sides)) × (length (now gives) ≡ length (now wants)) × (v < length (now wants)) × (length (now wants) ≤ length (now «came_by»)) ⌝ }
+    requires labels { ⌜ (length (now wants) ≤ now labels .used) × (length (now wants) ≤ length (now (now labels .places))) ⌝ }
+    requires small { ⌜ Sized (Price·Price .ops) (length (now wants)) (2 ^ 38) (now (now labels .places)) ⌝ }
+    requires labelled { ⌜ Labelled (Price·Price .ops) (length (now wants)) (network (Price·Price .ops) (T·Tariff .rate (now tariff)) (now sides)) (label-at (Price·Price .ops) (take (length (now wants)) (now (now labels .places)))) (units (now flow)) ⌝ }
+    ensures labelled { λ _. ⌜ Labelled (Price·Price .ops) (length (now (wants .entry))) (network (Price·Price .ops) (T·Tariff .rate (now (tariff .entry))) (now (sides .entry))) (label-at (Price·Price .ops) (take (length (now (wants .entry))) (now (now (labels .entry) .places)))) (units (now (flow .exit))) ⌝ }
+    ensures onward { λ _. ⌜ Onward (length (now (wants .entry))) (network (Price·Price .ops) (T·Tariff .rate (now (tariff .entry))) (now (sides .entry))) (units (now (wants .entry))) (units (now (gives .entry))) (units (now (flow .entry))) (units (now (wants .exit))) (units (now (gives .exit))) (units (now (flow .exit))) ⌝ }
+    ensures less { λ _. ⌜ total (length (now (wants .entry))) (now (gives .exit)) ≤ total (length (now (wants .entry))) (now (gives .entry)) ⌝ }
+{
+    while wants[v] > 0 && is_supplied(tariff, sides, flow, gives, labels, came_by, v) {
+        ship(tariff, sides, flow, wants, gives, labels, came_by, v);
+    }
+}
+
+// Sends units to each node in turn, along the ways of one search that are still open.
+fn fill_nodes<T: Tariff>(
+    tariff: &T,
+    sides: &[Side],
+    flow: &mut [u16],
+    wants: &mut [u16],
+    gives: &mut [u16],
+    labels: &SliceVec<'_, Label<T::Price>>,
+    came_by: &[u16],
+)
+    requires proper { ⌜ Proper (length (now wants)) (now sides) ⌝ }
+    requires inside { ⌜ (length (now flow) ≡ length (now sides)) × (length (now gives) ≡ length (now wants)) × (length (now wants) ≤ length (now «came_by»)) ⌝ }
+    requires labels { ⌜ (length (now wants) ≤ now labels .used) × (length (now wants) ≤ length (now (now labels .places))) ⌝ }
+    requires small { ⌜ Sized (Price·Price .ops) (length (now wants)) (2 ^ 38) (now (now labels .places)) ⌝ }
+    requires labelled { ⌜ Labelled (Price·Price .ops) (length (now wants)) (network (Price·Price .ops) (T·Tariff .rate (now tariff)) (now sides)) (label-at (Price·Price .ops) (take (length (now wants)) (now (now labels .places)))) (units (now flow)) ⌝ }
+    ensures labelled { λ _. ⌜ Labelled (Price·Price .ops) (length (now (wants .entry))) (network (Price·Price .ops) (T·Tariff .rate (now (tariff .entry))) (now (sides .entry))) (label-at (Price·Price .ops) (take (length (now (wants .entry))) (now (now (labels .entry) .places)))) (units (now (flow .exit))) ⌝ }
+    ensures onward { λ _. ⌜ Onward (length (now (wants .entry))) (network (Price·Price .ops) (T·Tariff .rate (now (tariff .entry))) (now (sides .entry))) (units (now (wants .entry))) (units (now (gives .entry))) (units (now (flow .entry))) (units (now (wants .exit))) (units (now (gives .exit))) (units (now (flow .exit))) ⌝ }
+    ensures less { λ _. ⌜ total (length (now (wants .entry))) (now (gives .exit)) ≤ total (length (now (wants .entry))) (now (gives .entry)) ⌝ }
+{
+    for v in 0..wants.len() {
+        fill_node(tariff, sides, flow, wants, gives, labels, came_by, v);
+    }
+}
+
+// One search from the nodes that have units left, and units along the ways that it finds; false where no labelled node wants one.
 fn advance<T: Tariff>(
     tariff: &T,
     sides: &[Side],
@@ -294,6 +343,7 @@ fn advance<T: Tariff>(
     }
     index_sides(sides, labels, wants.len(), came_by);
     ship(tariff, sides, flow, wants, gives, labels, came_by, v);
+    fill_nodes(tariff, sides, flow, wants, gives, labels, came_by);
     true
 }
 
