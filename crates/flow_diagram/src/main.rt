@@ -1,15 +1,16 @@
-// Reads a survey text from standard input, and prints an account of the survey or a refusal.
+// Reads a survey text from standard input, plans the cave, and prints an account of the plan or a refusal.
 mod explain;
 
 use explain::explain;
 use explain::has_value;
+use plan::planning::plan;
+use plan::plans::Plan;
+use refusal::Refusal;
 use report::account;
 use report::refusal_line;
-use stations::count_stations;
 use std::io;
 use std::io::Read;
 use std::io::Write;
-use survey::Survey;
 use svx::fault::Fault;
 use svx::read;
 use table::SurveyTable;
@@ -27,36 +28,57 @@ fn failure() -> io::Error {
     io::Error::from(io::ErrorKind::InvalidData)
 }
 
-// Says in one line on standard error what is wrong and where.
-fn complain(rt: &LibcRuntime, fault: &Fault) -> io::Result<()> {
-    let what = explain(&fault.cause);
-    let line = fault.line;
-    let place = fault.place;
-    if has_value(&fault.cause) {
-        let value = fault.value();
-        eprintln!(rt, "line {line}, byte {place}: {what} {value}")
+// Says in one line on standard error what is wrong.
+fn complain(rt: &LibcRuntime, cause: &Refusal) -> io::Result<()> {
+    let what = explain(cause);
+    if has_value(cause) {
+        let value = cause.value();
+        eprintln!(rt, "{what} {value}")
     } else {
-        eprintln!(rt, "line {line}, byte {place}: {what}")
+        eprintln!(rt, "{what}")
     }
 }
 
-fn print_account(rt: &LibcRuntime, table: &SurveyTable) -> io::Result<()> {
+// Prints the refusal line.
+fn print_refusal(rt: &LibcRuntime, cause: &Refusal, line: usize) -> io::Result<()> {
     let mut out = [0u8; 128];
-    match account(count_stations(table.as_slice()), table.count(), &mut out) {
+    match refusal_line(cause.number() as usize, line, &mut out) {
         Ok(n) => rt.stdout().write_all(&out[0..n]),
         Err(_) => Err(failure()),
     }
 }
 
-fn print_refusal(rt: &LibcRuntime, fault: &Fault) -> io::Result<()> {
+// A fault in the text: the refusal, and where it is.
+fn refuse_text(rt: &LibcRuntime, fault: &Fault) -> io::Result<()> {
+    print_refusal(rt, &fault.cause, fault.line)?;
+    let line = fault.line;
+    let place = fault.place;
+    eprint!(rt, "line {line}, byte {place}: ")?;
+    complain(rt, &fault.cause)?;
+    Err(failure())
+}
+
+// A cave that cannot be planned.
+fn refuse_cave(rt: &LibcRuntime, cause: &Refusal) -> io::Result<()> {
+    print_refusal(rt, cause, 0)?;
+    complain(rt, cause)?;
+    Err(failure())
+}
+
+fn print_account(rt: &LibcRuntime, cave: &Plan) -> io::Result<()> {
     let mut out = [0u8; 128];
-    match refusal_line(fault.number() as usize, fault.line, &mut out) {
-        Ok(n) => {
-            rt.stdout().write_all(&out[0..n])?;
-            complain(rt, fault)?;
-            Err(failure())
-        }
+    match account(cave.stations(), cave.count(), cave.faces(), &mut out) {
+        Ok(n) => rt.stdout().write_all(&out[0..n]),
         Err(_) => Err(failure()),
+    }
+}
+
+// Plans left of leg 0, and prints the account.
+fn plan_cave(rt: &LibcRuntime, table: &SurveyTable) -> io::Result<()> {
+    let mut cave = Plan::new();
+    match plan(table, &mut cave, 0, 0) {
+        Ok(()) => print_account(rt, &cave),
+        Err(cause) => refuse_cave(rt, &cause),
     }
 }
 
@@ -64,7 +86,7 @@ fn main(rt: LibcRuntime) -> io::Result<()> {
     let text = read_input(&rt)?;
     let mut table = SurveyTable::new();
     match read(text.as_slice(), &mut table) {
-        Ok(()) => print_account(&rt, &table),
-        Err(fault) => print_refusal(&rt, &fault),
+        Ok(()) => plan_cave(&rt, &table),
+        Err(fault) => refuse_text(&rt, &fault),
     }
 }

@@ -58,18 +58,27 @@ put-three out a b c o₁ o₂ o₃ n₁ n₂ h e₁ m₁ e₂ m₂ e₃ =
     let f₂ : o₂ ≡ put out 0 (a ++ b) = e₂ ∙ ap (λ (v : List ℕ). put v n₁ b) e₁ ∙ ap (λ (n : ℕ). put (put out 0 a) n b) k₁ ∙ put-put out a b 0 (omega arith) in
     e₃ ∙ ap (λ (v : List ℕ). put v n₂ c) f₂ ∙ ap (λ (n : ℕ). put (put out 0 (a ++ b)) n c) k₂ ∙ put-put out (a ++ b) c 0 (omega arith) ∙ ap (put out 0) (append-assoc a b c)
 
--- two pieces and a line feed, as `whole-text` puts them together
+-- the pieces of the refusal line and of the account, with a line feed, as `whole-text` puts them together
 abbrev two-pieces : (a m b n : List ℕ) → List ℕ
 two-pieces a m b n = ((a ++ m) ++ ((b ++ n) ++ [])) ++ (10 ∷ [])
 
-two-lines : (a m b n : List ℕ) → two-pieces a m (10 ∷ b) n ≡ (a ++ (m ++ (10 ∷ []))) ++ (b ++ (n ++ (10 ∷ [])))
-two-lines a m b n = simp (append-assoc, append-nil) (ap (λ (v : List ℕ). a ++ (m ++ (10 ∷ v))) (append-assoc b n (10 ∷ [])))
+abbrev three-pieces : (a l b m c n : List ℕ) → List ℕ
+three-pieces a l b m c n = ((a ++ l) ++ ((b ++ m) ++ ((c ++ n) ++ []))) ++ (10 ∷ [])
 
 one-line : (a m b n : List ℕ) → two-pieces a m b n ≡ a ++ (m ++ (b ++ (n ++ (10 ∷ []))))
 one-line a m b n = simp (append-assoc, append-nil)
 
-pub account-whole : (stations legs : ℕ) → two-pieces (codes "stations ") (decimal stations) (10 ∷ codes "legs ") (decimal legs) ≡ account-text stations legs
-account-whole stations legs = two-lines (codes "stations ") (decimal stations) (codes "legs ") (decimal legs)
+three-lines : (a l b m c n : List ℕ) → three-pieces a l (10 ∷ b) m (10 ∷ c) n ≡ (a ++ (l ++ (10 ∷ []))) ++ ((b ++ (m ++ (10 ∷ []))) ++ (c ++ (n ++ (10 ∷ []))))
+three-lines a l b m c n =
+    let rest : List ℕ = c ++ (n ++ (10 ∷ [])) in
+    ap (λ (v : List ℕ). ((a ++ l) ++ (((10 ∷ b) ++ m) ++ v)) ++ (10 ∷ [])) (append-nil ((10 ∷ c) ++ n))
+    ∙ append-assoc (a ++ l) (((10 ∷ b) ++ m) ++ ((10 ∷ c) ++ n)) (10 ∷ [])
+    ∙ append-assoc a l ((((10 ∷ b) ++ m) ++ ((10 ∷ c) ++ n)) ++ (10 ∷ []))
+    ∙ ap (λ (v : List ℕ). a ++ (l ++ (10 ∷ v))) (append-assoc (b ++ m) (10 ∷ (c ++ n)) (10 ∷ []) ∙ append-assoc b m (10 ∷ ((c ++ n) ++ (10 ∷ []))) ∙ ap (λ (v : List ℕ). b ++ (m ++ (10 ∷ v))) (append-assoc c n (10 ∷ [])))
+    ∙ sym (append-assoc a (l ++ (10 ∷ [])) ((b ++ (m ++ (10 ∷ []))) ++ rest) ∙ ap (λ (v : List ℕ). a ++ v) (append-assoc l (10 ∷ []) ((b ++ (m ++ (10 ∷ []))) ++ rest)) ∙ ap (λ (v : List ℕ). a ++ (l ++ (10 ∷ v))) (append-assoc b (m ++ (10 ∷ [])) rest ∙ ap (λ (v : List ℕ). b ++ v) (append-assoc m (10 ∷ []) rest)))
+
+pub account-whole : (stations legs faces : ℕ) → three-pieces (codes "stations ") (decimal stations) (10 ∷ codes "legs ") (decimal legs) (10 ∷ codes "faces ") (decimal faces) ≡ account-text stations legs faces
+account-whole stations legs faces = three-lines (codes "stations ") (decimal stations) (codes "legs ") (decimal legs) (codes "faces ") (decimal faces)
 
 pub refusal-whole : (n k : ℕ) → two-pieces (codes "refused ") (decimal n) (codes " line ") (decimal k) ≡ refusal-text n k
 refusal-whole n k = one-line (codes "refused ") (decimal n) (codes " line ") (decimal k)

@@ -14,9 +14,9 @@ use Rattle.refusal.specs.Answers.{Answer, tells, refuses, told-by}
 abbrev pub line : List ℕ → ℕ → List ℕ
 line words n = words ++ (decimal n ++ (10 ∷ []))
 
--- the account of a survey
-abbrev pub account-text : (stations legs : ℕ) → List ℕ
-account-text stations legs = line (codes "stations ") stations ++ line (codes "legs ") legs
+-- the account of a plan
+abbrev pub account-text : (stations legs faces : ℕ) → List ℕ
+account-text stations legs faces = line (codes "stations ") stations ++ (line (codes "legs ") legs ++ line (codes "faces ") faces)
 
 -- a refusal with its number and line
 abbrev pub refusal-text : (number line : ℕ) → List ℕ

@@ -1,4 +1,4 @@
-// The account of a survey and the refusal line, written into a supplied buffer.
+// The account of a plan and the refusal line, written into a supplied buffer.
 ghost use mathlib.Core.Path.{_≡_};
 ghost use Prim.Native.Nat.{_+_, _^_, _<_, _≤_};
 ghost use lib.ListN.{length};
@@ -94,10 +94,10 @@ fn write(pieces: &[Piece], out: &mut [u8]) -> Result<usize, Refusal>
     Ok(put_words(out, at, b"\n"))
 }
 
-/// Writes the account of a survey at the buffer's start, and leaves the rest of it. Returns the bytes written.
-pub fn account(stations: usize, legs: usize, out: &mut [u8]) -> Result<usize, Refusal>
-    ensures answer { λ r. ⌜ told-bytes r ≡ write-answer (length (now (out .entry))) (account-text stations legs) ⌝ }
-    ensures out { λ r. ⌜ now (out .exit) ≡ written (now (out .entry)) (account-text stations legs) ⌝ }
+/// Writes the account of a plan at the buffer's start, and leaves the rest of it. Returns the bytes written.
+pub fn account(stations: usize, legs: usize, faces: usize, out: &mut [u8]) -> Result<usize, Refusal>
+    ensures answer { λ r. ⌜ told-bytes r ≡ write-answer (length (now (out .entry))) (account-text stations legs faces) ⌝ }
+    ensures out { λ r. ⌜ now (out .exit) ≡ written (now (out .entry)) (account-text stations legs faces) ⌝ }
 {
     let pieces = [
         Piece {
@@ -107,6 +107,10 @@ pub fn account(stations: usize, legs: usize, out: &mut [u8]) -> Result<usize, Re
         Piece {
             words: b"\nlegs ",
             number: legs,
+        },
+        Piece {
+            words: b"\nfaces ",
+            number: faces,
         },
     ];
     write(&pieces, out)

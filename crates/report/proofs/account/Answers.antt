@@ -11,11 +11,12 @@ pub write-requires : need.write-requires
 write-requires c κs =
     let a = twenty-digits (c .args .stations) (c .fits .stations .fits) in
     let b = twenty-digits (c .args .legs) (c .fits .legs .fits) in
+    let d = twenty-digits (c .args .faces) (c .fits .faces .fits) in
     simp length-append (omega arith)
 
 pub returns : need.returns
 returns c =
-    let e = account-whole (c .args .stations) (c .args .legs) in
+    let e = account-whole (c .args .stations) (c .args .legs) (c .args .faces) in
     record {
       answer = c .write .ensures .answer ∙ ap (write-answer (length (c .args .out .now))) e;
       out = c .write .ensures .out ∙ ap (written (c .args .out .now)) e;
