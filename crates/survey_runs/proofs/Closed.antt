@@ -38,12 +38,14 @@ length-written : (entries : List Change) (n : ℕ) (cs : List Change) → length
 length-written entries n [] = refl
 length-written entries n (c ∷ cs) = length-written (set entries n c) (n + 1) cs ∙ length-set entries n c
 
+pub length-sent : (d : ℕ) (cs : List Change) → length (stack-sends d cs) ≡ length cs
+length-sent d cs = simp length-map
+
 -- a new journal
 module _ (d : ℕ) (j : SurveyJournal) (new : taken-entries j ≡ 0) where
   free-then : (cs : List Change) (u : SurveyJournal) → Wrote j (stack-sends d cs) u → has-free-entry u ≡ free-entry (length cs) (length (held-entries j))
   free-then cs u w =
-      let n : length (stack-sends d cs) ≡ length cs = simp length-map in
-      let m : taken-entries u ≡ length cs = omega (arith, w .taken, n, new) in
+      let m : taken-entries u ≡ length cs = omega (arith, w .taken, length-sent d cs, new) in
       let k : length (held-entries u) ≡ length (held-entries j) = ap length (w .entries) ∙ length-written (held-entries j) (taken-entries j) (stack-sends d cs) in
       ap (λ (x : ℕ). free-entry x (length (held-entries u))) m ∙ ap (free-entry (length cs)) k
 

@@ -1,2 +1,2 @@
-mod Layers
+mod Below
 mod Closed

@@ -3,9 +3,10 @@ ghost use mathlib.Core.Path.{_≡_};
 ghost use mathlib.Core.List.{[]};
 ghost use Prim.Native.Nat.{_%_};
 ghost use lib.ListN.{length};
+ghost use denote.Ref.{name};
 ghost use Rattle.table.specs.Tables.{table-legs};
 ghost use Rattle.replay.specs.Entries.{written};
-ghost use Rattle.journal.specs.Journals.{journal-legs, held-entries};
+ghost use Rattle.journal.specs.Journals.{journal-legs, held-entries, taken-entries};
 ghost use Rattle.transcript.specs.Runs.{run-legs, run-changes, Sent};
 ghost use Rattle.survey_runs.specs.Stack.{top-shows, top-sends, upper-shows, upper-sends, stack-shows, stack-sends};
 ghost use Rattle.survey_runs.specs.Ran.{Ran, journal-allows, table-enters, table-amends};
@@ -68,6 +69,8 @@ pub fn run_journal<'a>(
 ) -> SurveyJournal<'a>
     ensures ran { λ r. ⌜ Ran (journal-allows (length (now (entries .entry)))) (journal-allows (length (now (entries .entry)))) (now (steps .entry)) (now (steps .exit)) ⌝ }
     ensures list { λ r. ⌜ stack-shows (turn % 3600) (journal-legs r) ≡ run-legs [] (now (steps .exit)) ⌝ }
+    ensures taken { λ r. ⌜ taken-entries r ≡ length (run-changes (now (steps .exit))) ⌝ }
+    ensures lender { λ r. ⌜ name (r .entries .places) ≡ name (entries .entry) ⌝ }
     ensures entries { λ r. ⌜ held-entries r ≡ written (now (entries .entry)) 0 (stack-sends (turn % 3600) (run-changes (now (steps .exit)))) ⌝ }
 {
     let mut journal = SurveyJournal::new(entries);

@@ -76,8 +76,8 @@ module _ {f g : ℕ → ℕ} (t : Turns f g) where
       let u = t .opposites (a .bearing) x in
       let v = t .opposites (b .bearing) y in cc
 
-  pub turns-lawful : ViewLaws (shows-bearing f) (sends-bearing g)
-  turns-lawful = record { refusal = refusal-at; as-given = as-given-at; as-kept = as-kept-at; valid = valid-at; clashes = clashes-at; attributes = λ l. refl; amends = λ x l. refl }
+  pub turns-laws : ViewLaws (shows-bearing f) (sends-bearing g)
+  turns-laws = record { refusal = refusal-at; as-given = as-given-at; as-kept = as-kept-at; valid = valid-at; clashes = clashes-at; attributes = λ l. refl; amends = λ x l. refl }
 
 turned-distinct : (d b c : ℕ) → b < 3600 → c < 3600 → eqb (turned d b) (turned d c) ≡ eqb b c
 turned-distinct d b c p q = grind (arith, tests)

@@ -71,5 +71,5 @@ clashes-at a b p q =
     let o = or-turn (coincide (a .from) (a .bearing) (b .from) (b .bearing)) (coincide (a .from) (a .bearing) (b .to) (far-bearing b)) (coincide (a .to) (far-bearing a) (b .from) (b .bearing)) (coincide (a .to) (far-bearing a) (b .to) (far-bearing b)) in
     cc
 
-pub reversed-lawful : ViewLaws reversed-shows reversed-sends
-reversed-lawful = record { refusal = refusal-at; as-given = as-given-at; as-kept = as-kept-at; valid = valid-at; clashes = clashes-at; attributes = λ l. refl; amends = λ x l. refl }
+pub reversed-laws : ViewLaws reversed-shows reversed-sends
+reversed-laws = record { refusal = refusal-at; as-given = as-given-at; as-kept = as-kept-at; valid = valid-at; clashes = clashes-at; attributes = λ l. refl; amends = λ x l. refl }

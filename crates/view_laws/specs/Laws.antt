@@ -19,8 +19,8 @@ pub record ViewLaws (shows sends : Leg → Leg) : Type 0 where
   pub attributes : (l : Leg) → attributes-of (shows l) ≡ attributes-of l
   pub amends : (x : Attributes) (l : Leg) → shows (with-attributes x l) ≡ with-attributes x (shows l)
 
--- the three views are views
-pub record Lawful-views : Type 0 where
+-- the three views meet the laws
+pub record Three-views : Type 0 where
   pub declination : (d : ℕ) → ViewLaws (declination-shows d) (declination-sends d)
   pub mirror : ViewLaws mirrored-shows mirrored-sends
   pub reversal : ViewLaws reversed-shows reversed-sends

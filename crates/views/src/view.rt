@@ -5,7 +5,7 @@ ghost use lib.Dec.{ltb};
 ghost use Rattle.survey.specs.declared.leg.Leg.{Leg};
 ghost use Rattle.view_laws.specs.Views.{with-bearing as at-bearing, swapped as swapped-at, turned, mirrored, declination-shows, declination-sends, mirrored-shows, mirrored-sends, reversed-shows, reversed-sends};
 ghost use Rattle.view_laws.specs.Laws.{ViewLaws};
-ghost use Rattle.view_laws.proofs.Three.{three-lawful};
+ghost use Rattle.view_laws.proofs.Three.{three-laws};
 use survey::leg::Leg;
 
 /// A full circle in tenths of a degree.
@@ -54,7 +54,7 @@ pub impl View for Declination as DeclinationView {
 
     ghost sends = { λ v. declination-sends (v .turn) };
 
-    ghost laws = { λ v. three-lawful .declination (v .turn) };
+    ghost laws = { λ v. three-laws .declination (v .turn) };
 
     fn show(&self, leg: Leg) -> Leg
         ensures { λ r. ⌜ r ≡ declination-shows (now (self .entry) .turn) leg ⌝ }
@@ -81,7 +81,7 @@ pub impl View for Mirrored as MirroredView {
 
     ghost sends = { λ v. mirrored-sends };
 
-    ghost laws = { λ v. three-lawful .mirror };
+    ghost laws = { λ v. three-laws .mirror };
 
     fn show(&self, leg: Leg) -> Leg
         ensures { λ r. ⌜ r ≡ mirrored-shows leg ⌝ }
@@ -108,7 +108,7 @@ pub impl View for Reversed as ReversedView {
 
     ghost sends = { λ v. reversed-sends };
 
-    ghost laws = { λ v. three-lawful .reversal };
+    ghost laws = { λ v. three-laws .reversal };
 
     fn show(&self, leg: Leg) -> Leg
         ensures { λ r. ⌜ r ≡ reversed-shows leg ⌝ }

@@ -2,6 +2,7 @@
 use mathlib.Core.Path.{_≡_, ap, subst, _∙_}
 use mathlib.Core.List.{List}
 use Prim.Native.Nat.{ℕ, _%_}
+use native.Mathlib.Omega.{arith}
 use lib.ListN.{length}
 use Rattle.survey.specs.declared.leg.Leg.{Leg}
 use Rattle.survey.specs.declared.leg.Change.{Change}
@@ -10,7 +11,7 @@ use Rattle.journal.specs.Journals.{held-entries}
 use Rattle.transcript.specs.Runs.{run-legs, run-changes}
 use Rattle.survey_runs.specs.Stack.{stack-shows, stack-sends}
 use Rattle.survey_runs.specs.Ran.{Ran, journal-allows}
-use Rattle.survey_runs.proofs.Closed.{journal-ran}
+use Rattle.survey_runs.proofs.Closed.{length-sent, journal-ran}
 use Rattle.survey_runs.proofs.run_journal.Needs as need
 
 pub returns : need.returns
@@ -23,5 +24,7 @@ returns c =
     record {
       ran = subst (λ (xs : List Change). Ran (journal-allows (length xs)) (journal-allows (length xs)) (c .args .steps .now) after) (n .held) (journal-ran d j (n .taken) (n .list) _ _ _ h);
       list = h .list ∙ ap (λ (xs : List Leg). run-legs (stack-shows d xs) after) (n .list);
+      taken = omega (arith, h .led .taken, n .taken, length-sent d (run-changes after));
+      lender = h .led .lender ∙ n .lender;
       entries = h .led .entries ∙ ap (λ (k : ℕ). written (held-entries j) k (stack-sends d (run-changes after))) (n .taken) ∙ ap (λ (xs : List Change). written xs 0 (stack-sends d (run-changes after))) (n .held);
     }

@@ -6,7 +6,7 @@ use denote.Ref.{now}
 use Rattle.view_laws.specs.Views.{declination-shows, declination-sends}
 use Rattle.transcript.specs.Runs.{Sent}
 use Rattle.survey_runs.specs.Stack.{top-shows, top-sends}
-use Rattle.survey_runs.proofs.Layers.{viewed-sent, Of, that, fact}
+use Rattle.survey_runs.proofs.Below.{viewed-sent, Of, that, of-it}
 use Rattle.survey_runs.proofs.send_declined.Needs as need
 
 pub returns : need.returns
@@ -16,4 +16,4 @@ returns g c =
     let q = viewed-sent (h .legs) (h .enters) (h .amends) (h .leads) (λ x. x) (λ x. x) (λ v. declination-shows (v .turn)) (λ v. declination-sends (v .turn)) _ _ _ _ (c .send .ensures) in
     let b : Of (P (c .args .turn % 3600)) (now (c .send .last .survey .below)) = that (subst (λ (d : ℕ). P d (now (c .send .last .survey .below))) (c .new .ensures) q) in
     let n = c .send .ensures .led .1 .0 in
-    fact (P (c .args .turn % 3600)) _ (search needs)
+    of-it (P (c .args .turn % 3600)) _ (search needs)

@@ -45,9 +45,9 @@ module _ {S : Type 0} (legs : S → List Leg) (enters amends : S → Bool) (lead
       sent-read (lent-read legs enters amends leads (λ x. f (map (shows (s .view)) x)) (λ cs. map (sent (sends (s .view))) (g cs)) (s .below)) before steps (t .below)
       (sent-read (view-read (λ (r : RefT S). legs (now r)) (λ r. enters (now r)) (λ r. amends (now r)) (Lent leads) f g shows sends s) before steps t h)
 
--- a fact of a state, as one piece
+-- what holds of a state, as one piece
 pub data Of {S : Type 0} (P : S → Type 0) : S → Type 0 where
   that : {t : S} → P t → Of P t
 
-pub fact : {S : Type 0} (P : S → Type 0) (t : S) → Of P t → P t
-fact P t (that p) = p
+pub of-it : {S : Type 0} (P : S → Type 0) (t : S) → Of P t → P t
+of-it P t (that p) = p
