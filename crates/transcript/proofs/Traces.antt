@@ -10,14 +10,26 @@ use Rattle.std.proofs.shelf.Lists.{take-all, take-more-set}
 use Rattle.survey.specs.declared.leg.Leg.{Leg}
 use Rattle.survey.specs.declared.leg.Change.{Change}
 use Rattle.survey.specs.Changes.{Leading}
+use Rattle.plan.specs.States.{Plan-state}
 use Rattle.transcript.specs.declared.step.Step.{Step}
-use Rattle.transcript.specs.Runs.{calls, step-at, step-legs, run-legs, step-changes, run-changes, Answered, Recorded, Passed, Sent}
+use Rattle.transcript.specs.Calls.{call-plan}
+use Rattle.transcript.specs.Runs.{calls, step-at, step-legs, run-legs, run-plan, step-changes, run-changes, Answered, Recorded, Passed, Sent}
 
 -- another step of the same call keeps the calls
 pub calls-set : (xs : List Step) (i : ℕ) (x d : Step) → i < length xs → x .call ≡ getD xs i d .call → calls (set xs i x) ≡ calls xs
 calls-set [] i x d h e = refl
 calls-set (y ∷ xs) zero x d h e = ap (λ z. z ∷ calls xs) e
 calls-set (y ∷ xs) (suc i) x d h e = ap (λ z. y .call ∷ z) (calls-set xs i x d (omega arith) e)
+
+plan-push : (legs : List Leg) (p : Plan-state) (xs : List Step) (x : Step) → run-plan legs p (xs ++ (x ∷ [])) ≡ call-plan (run-legs legs xs) (run-plan legs p xs) (x .call)
+plan-push legs p [] x = refl
+plan-push legs p (y ∷ xs) x = plan-push (step-legs legs y) (call-plan legs p (y .call)) xs x
+
+-- the plan after one step more, written in its place
+pub plan-set : (legs now : List Leg) (p q q′ : Plan-state) (xs : List Step) (i : ℕ) (x : Step) → i < length xs → now ≡ run-legs legs (take i xs) → q ≡ run-plan legs p (take i xs) → q′ ≡ call-plan now q (x .call) → q′ ≡ run-plan legs p (take (i + 1) (set xs i x))
+plan-set legs now p q q′ xs i x lt e f h =
+    h ∙ ap (λ (v : List Leg). call-plan v q (x .call)) e ∙ ap (λ (v : Plan-state). call-plan (run-legs legs (take i xs)) v (x .call)) f
+    ∙ sym (ap (run-plan legs p) (take-more-set xs i x lt) ∙ plan-push legs p (take i xs) x)
 
 module _ {S : Type 0} (legs : S → List Leg) (enters amends : S → Bool) (leads : S → List Change → S → Type 0) where
   -- each step was recorded from the state that the one before it left
@@ -32,6 +44,11 @@ module _ {S : Type 0} (legs : S → List Leg) (enters amends : S → Bool) (lead
   -- one step more, written in its place
   pub push-set : (s : S) (xs : List Step) (i : ℕ) (t : S) (x : Step) (u : S) → i < length xs → Trace s (take i xs) t → Recorded legs enters amends leads t x u → Trace s (take (i + 1) (set xs i x)) u
   push-set s xs i t x u lt h r = let e = take-more-set xs i x lt in rw e (push s (take i xs) t x u h r)
+
+  -- the list that a trace leaves
+  pub trace-list : (s : S) (xs : List Step) (t : S) → Trace s xs t → legs t ≡ run-legs (legs s) xs
+  trace-list s [] t h = ap legs (sym h)
+  trace-list s (x ∷ xs) t h = trace-list (h .0) xs t (h .2) ∙ ap (λ (v : List Leg). run-legs v xs) (h .1 .list)
 
   state-at : (s : S) (xs : List Step) (t : S) → Trace s xs t → ℕ → S
   state-at s [] t h i = s

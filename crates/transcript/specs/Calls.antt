@@ -13,10 +13,12 @@ use Rattle.survey.specs.declared.leg.Change.the-variants.{Enter, Strike, Amend}
 use Rattle.survey.specs.Ends.{no-leg}
 use Rattle.survey.specs.Model.{enter-answer, enter-legs, strike-answer, strike-legs, amend-answer, amend-legs, query-answer}
 use Rattle.survey.specs.Changes.{changes}
+use Rattle.embedding.specs.Plans.{plan-answer}
+use Rattle.plan.specs.States.{Plan-state, planned-state}
 use Rattle.transcript.specs.declared.step.Call.{Call}
-use Rattle.transcript.specs.declared.step.Call.the-variants.{Change, Count, LegAt, MayEnter, MayAmend}
+use Rattle.transcript.specs.declared.step.Call.the-variants.{Change, Count, LegAt, MayEnter, MayAmend, Plan}
 use Rattle.transcript.specs.declared.step.Reply.{Reply}
-use Rattle.transcript.specs.declared.step.Reply.the-variants.{Changed, Counted, Found, Allowed}
+use Rattle.transcript.specs.declared.step.Reply.the-variants.{Changed, Counted, Found, Allowed, Planned}
 
 abbrev pub change-answer : List Leg → (enters amends : Bool) → Changing → Answer
 change-answer legs enters amends (Enter l) = enter-answer legs enters l
@@ -34,14 +36,16 @@ call-answer legs enters amends Count = tells (length legs)
 call-answer legs enters amends (LegAt i) = query-answer legs i
 call-answer legs enters amends MayEnter = tells (cond enters 1 0)
 call-answer legs enters amends MayAmend = tells (cond amends 1 0)
+call-answer legs enters amends (Plan leg side) = plan-answer legs leg side
 
--- a query leaves the list as it is
+-- a query and a plan leave the list as it is
 abbrev pub call-legs : List Leg → (enters amends : Bool) → Call → List Leg
 call-legs legs enters amends (Change c) = change-legs legs enters amends c
 call-legs legs enters amends Count = legs
 call-legs legs enters amends (LegAt i) = legs
 call-legs legs enters amends MayEnter = legs
 call-legs legs enters amends MayAmend = legs
+call-legs legs enters amends (Plan leg side) = legs
 
 -- the reply to a call that is accepted
 abbrev pub call-reply : List Leg → (enters amends : Bool) → Call → Reply
@@ -50,6 +54,7 @@ call-reply legs enters amends Count = Counted (length legs)
 call-reply legs enters amends (LegAt i) = Found (getD legs i no-leg)
 call-reply legs enters amends MayEnter = Allowed enters
 call-reply legs enters amends MayAmend = Allowed amends
+call-reply legs enters amends (Plan leg side) = Planned
 
 -- an answer that is no refusal is this reply
 abbrev pub Replies : Result Reply Refusal → Reply → Type 0
@@ -63,3 +68,13 @@ call-changes a Count = []
 call-changes a (LegAt i) = []
 call-changes a MayEnter = []
 call-changes a MayAmend = []
+call-changes a (Plan leg side) = []
+
+-- the plan after a call: an accepted call to plan gives it the legs of that moment and the side asked for
+abbrev pub call-plan : List Leg → Plan-state → Call → Plan-state
+call-plan legs p (Change c) = p
+call-plan legs p Count = p
+call-plan legs p (LegAt i) = p
+call-plan legs p MayEnter = p
+call-plan legs p MayAmend = p
+call-plan legs p (Plan leg side) = planned-state (plan-answer legs leg side) legs leg side p

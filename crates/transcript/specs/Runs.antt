@@ -7,11 +7,12 @@ use lib.ListN.{length, getD, take}
 use Rattle.std.specs.Iters.{folded}
 use Rattle.survey.specs.declared.leg.Leg.{Leg}
 use Rattle.survey.specs.declared.leg.Change.{Change}
+use Rattle.plan.specs.States.{Plan-state}
 use Rattle.transcript.specs.declared.step.Call.{Call}
 use Rattle.transcript.specs.declared.step.Call.the-variants.{Count}
 use Rattle.transcript.specs.declared.step.Step.{Step}
 use Rattle.transcript.specs.Steps.{unsent, step-told}
-use Rattle.transcript.specs.Calls.{call-answer, call-legs, call-reply, Replies, call-changes}
+use Rattle.transcript.specs.Calls.{call-answer, call-legs, call-reply, Replies, call-changes, call-plan}
 
 abbrev pub calls : List Step → List Call
 calls steps = map (λ (x : Step). x .call) steps
@@ -27,6 +28,11 @@ step-legs legs x = call-legs legs (x .«may_enter») (x .«may_amend») (x .call
 -- the list that the model makes of a list by a run
 abbrev pub run-legs : List Leg → List Step → List Leg
 run-legs legs steps = folded step-legs legs steps
+
+-- the plan that the model makes of a plan by a run: the last accepted call to plan tells it
+abbrev pub run-plan : List Leg → Plan-state → List Step → Plan-state
+run-plan legs p [] = p
+run-plan legs p (x ∷ steps) = run-plan (step-legs legs x) (call-plan legs p (x .call)) steps
 
 -- the accepted changes of a run, in order
 abbrev pub step-changes : Step → List Change

@@ -6,7 +6,7 @@ use Rattle.refusal.specs.Answers.{Answer, accepted, answers, tells, told-by}
 use Rattle.survey.specs.Model.{leg-told}
 use Rattle.transcript.specs.declared.step.Call.{Call}
 use Rattle.transcript.specs.declared.step.Reply.{Reply}
-use Rattle.transcript.specs.declared.step.Reply.the-variants.{Unsent, Changed, Counted, Found, Allowed}
+use Rattle.transcript.specs.declared.step.Reply.the-variants.{Unsent, Changed, Counted, Found, Allowed, Planned}
 use Rattle.transcript.specs.declared.step.Step.{Step}
 
 abbrev pub unsent : Call → Step
@@ -19,6 +19,7 @@ reply-told Changed = accepted
 reply-told (Counted n) = tells n
 reply-told (Found l) = leg-told l
 reply-told (Allowed may) = tells (cond may 1 0)
+reply-told Planned = accepted
 
 -- the answer that a step records
 abbrev pub step-told : Step → Answer

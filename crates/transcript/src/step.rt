@@ -5,7 +5,7 @@ use refusal::Refusal;
 use survey::leg::Change;
 use survey::leg::Leg;
 
-/// A call to a survey: a change, or a query, which changes nothing.
+/// A call to a survey: a change, a query, which changes nothing, or a call to plan it.
 #[derive(Clone, Copy)]
 pub enum Call {
     /// Enter, strike or amend.
@@ -18,6 +18,8 @@ pub enum Call {
     MayEnter,
     /// Whether legs may be struck and amended.
     MayAmend,
+    /// Plan the legs, with this side of this leg as the outer side.
+    Plan { leg: usize, side: u32 },
 }
 
 /// What an accepted call tells.
@@ -33,6 +35,8 @@ pub enum Reply {
     Found(Leg),
     /// Whether the survey allows it.
     Allowed(bool),
+    /// The plan was made.
+    Planned,
 }
 
 /// A call, what the survey allowed just before it, and how it was answered.
