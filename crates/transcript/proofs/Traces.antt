@@ -11,7 +11,7 @@ use Rattle.survey.specs.declared.leg.Leg.{Leg}
 use Rattle.survey.specs.declared.leg.Change.{Change}
 use Rattle.survey.specs.Changes.{Leading}
 use Rattle.transcript.specs.declared.step.Step.{Step}
-use Rattle.transcript.specs.Runs.{calls, step-at, step-legs, run-legs, step-changes, run-changes, Answered, Recorded, Passed, Sent}
+use Rattle.transcript.specs.Runs.{calls, step-at, run-legs, step-changes, run-changes, Answered, Recorded, Sent}
 
 -- another step of the same call keeps the calls
 pub calls-set : (xs : List Step) (i : ℕ) (x d : Step) → i < length xs → x .call ≡ getD xs i d .call → calls (set xs i x) ≡ calls xs
