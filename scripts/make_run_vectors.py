@@ -17,13 +17,15 @@ Format: whole numbers parted by blanks.
     3 count, 4 leg (number), 5 may enter, 6 may amend; an argument that the kind has not is 0.
     an answer is the number of the refusal, 0 where accepted, and six values, those not told 0.
   a line for each leg that is left below the views, in the journal and then in the table: its six numbers
+
+The file `stdout` beside it has what the program must print: every answer and every leg agrees.
 """
 import random
 
 SEED = 20240611
 DECLINATION = 4321
-ENTRIES = 300
-CALLS = 900
+ENTRIES = 400
+CALLS = 1000
 TABLE = 256
 
 

@@ -1,6 +1,13 @@
 // Sends calls from standard input through a stack of views to a journal and to a table, and compares the answers,
 // and the legs that are left below the views, with those expected. The input is made by scripts/make_run_vectors.py,
 // which says what its numbers mean.
+ghost use mathlib.Core.Path.{_≡_};
+ghost use Prim.Native.Nat.{min};
+ghost use lib.ListN.{getD};
+ghost use Rattle.std.specs.Of.Vec.{vec-items};
+ghost use Rattle.refusal.specs.Answers.{told-by};
+ghost use Rattle.survey.specs.Model.{leg-told};
+ghost use Rattle.transcript.specs.Steps.{reply-told};
 use journal::JournalSurvey;
 use refusal::Refusal;
 use std::alloc::AllocError;
@@ -33,10 +40,16 @@ struct Numbers {
 
 impl Numbers {
     // The next number, or 0 past the last.
-    fn next(&mut self) -> u32 {
+    fn next(&mut self) -> u32
+        ensures number { λ r. ⌜ r ≡ getD (vec-items (now (self .entry) .all)) (now (self .entry) .at) 0 ⌝ }
+        ensures all { λ _. ⌜ now (self .exit) .all ≡ now (self .entry) .all ⌝ }
+    {
         let i = self.at;
-        self.at = i.saturating_add(1);
-        self.all.get(i).copied().unwrap_or(0)
+        if i >= self.all.len() {
+            return 0;
+        }
+        self.at = i + 1;
+        self.all[i]
     }
 
     fn next_six(&mut self) -> [u32; 6] {
@@ -100,17 +113,24 @@ struct Told {
 }
 
 // A number of the library as the input has it.
-fn small(n: usize) -> u32 {
+fn small(n: usize) -> u32
+    ensures { λ r. ⌜ r ≡ min n 4294967295 ⌝ }
+{
     u32::try_from(n).unwrap_or(u32::MAX)
 }
 
-fn numbers_of(l: Leg) -> [u32; 6] {
+fn numbers_of(l: Leg) -> [u32; 6]
+    ensures { λ r. ⌜ r ≡ leg-told l .values ⌝ }
+{
     [l.from, l.to, l.bearing, l.weight, l.wet, l.limit]
 }
 
-fn tell(answer: Result<Reply, Refusal>) -> Told {
+// An answer in the form of the input; what was not sent tells what no answer tells.
+fn tell(answer: Result<Reply, Refusal>) -> Told
+    ensures { λ r. ⌜ r .number ≡ told-by reply-told answer .number ⌝ }
+{
     let (number, values) = match answer {
-        Ok(Reply::Unsent) => (99, [0; 6]),
+        Ok(Reply::Unsent) => (0, [u32::MAX; 6]),
         Ok(Reply::Changed) => (0, [0; 6]),
         Ok(Reply::Counted(n)) => (0, [small(n), 0, 0, 0, 0, 0]),
         Ok(Reply::Found(leg)) => (0, numbers_of(leg)),

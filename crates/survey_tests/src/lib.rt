@@ -1,11 +1,17 @@
 // Worked examples of surveys: bearings at the edge of their range through every view, the journal's last free
 // entry, and ranges at the end of the list.
+ghost use mathlib.Core.Path.{_≡_};
+ghost use Rattle.refusal.specs.Answers.{told as told-of};
+ghost use Rattle.survey.specs.Model.{query-answer};
+ghost use Rattle.survey_tests.specs.Examples.{plain-leg, told-as, bearing-told};
 use refusal::Refusal;
 use survey::Survey;
 use survey::leg::Leg;
 
-/// A leg of weight 1, dry, with limit 999.
-fn leg(from: u32, to: u32, bearing: u32) -> Leg {
+// A leg of weight 1, dry, with limit 999.
+fn leg(from: u32, to: u32, bearing: u32) -> Leg
+    ensures { λ r. ⌜ r ≡ plain-leg from to bearing ⌝ }
+{
     Leg {
         from,
         to,
@@ -16,16 +22,20 @@ fn leg(from: u32, to: u32, bearing: u32) -> Leg {
     }
 }
 
-/// An answer by number and value, 0 and 0 where the call is accepted.
-fn told(answer: Result<(), Refusal>) -> (u32, usize) {
+// An answer by number and value, 0 and 0 where the call is accepted.
+fn told(answer: Result<(), Refusal>) -> (u32, usize)
+    ensures { λ r. ⌜ told-of answer ≡ told-as r ⌝ }
+{
     match answer {
         Ok(()) => (0, 0),
         Err(e) => (e.number(), e.value()),
     }
 }
 
-/// The bearing of leg i, or none.
-fn bearing<S: Survey>(s: &S, i: usize) -> Option<u32> {
+// The bearing of leg i, or none.
+fn bearing<S: Survey>(s: &S, i: usize) -> Option<u32>
+    ensures { λ r. ⌜ r ≡ bearing-told (query-answer (legs (now (s .entry))) i) ⌝ }
+{
     match s.leg(i) {
         Ok(l) => Some(l.bearing),
         Err(_) => None,

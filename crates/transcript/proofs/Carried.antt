@@ -1,14 +1,14 @@
 -- A run on one kind of survey is a run on another that its states can be read as.
 use mathlib.Core.Path.{_≡_, sym, ap, subst, _∙_}
-use mathlib.Core.List.{List, []}
+use mathlib.Core.List.{List}
 use mathlib.Core.Bool.{Bool}
-use Prim.Native.Nat.{ℕ, _+_, _<_, _≤_}
+use Prim.Native.Nat.{ℕ, _+_, _≤_}
 use native.Mathlib.Omega.{arith}
 use lib.ListN.{length, take}
 use Rattle.survey.specs.declared.leg.Leg.{Leg}
 use Rattle.survey.specs.declared.leg.Change.{Change}
 use Rattle.transcript.specs.declared.step.Step.{Step}
-use Rattle.transcript.specs.Runs.{step-at, step-legs, run-legs, step-changes, run-changes, Answered, Recorded, Passed, Sent}
+use Rattle.transcript.specs.Runs.{step-at, step-legs, run-legs, step-changes, run-changes, Answered, Recorded, Sent}
 
 -- how a survey's states are read: by a function that keeps the list, what is allowed and what changes led to
 pub record Read {T S : Type 0}

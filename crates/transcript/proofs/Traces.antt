@@ -13,7 +13,7 @@ use Rattle.survey.specs.Changes.{Leading}
 use Rattle.plan.specs.States.{Plan-state}
 use Rattle.transcript.specs.declared.step.Step.{Step}
 use Rattle.transcript.specs.Calls.{call-plan}
-use Rattle.transcript.specs.Runs.{calls, step-at, step-legs, run-legs, run-plan, step-changes, run-changes, Answered, Recorded, Passed, Sent}
+use Rattle.transcript.specs.Runs.{calls, step-at, step-legs, run-legs, run-plan, step-changes, run-changes, Answered, Recorded, Sent}
 
 -- another step of the same call keeps the calls
 pub calls-set : (xs : List Step) (i : ℕ) (x d : Step) → i < length xs → x .call ≡ getD xs i d .call → calls (set xs i x) ≡ calls xs

@@ -1,7 +1,7 @@
 -- What a view keeps of a valid list: proved once, for every view.
 use mathlib.Core.Path.{_≡_, refl, sym, ap, subst, _∙_}
 use mathlib.Core.List.{List, [], _∷_, _++_, map}
-use mathlib.Core.Bool.{Bool, true, false, cond, not, _&&_}
+use mathlib.Core.Bool.{Bool, true, false, cond}
 use Prim.Native.Nat.{ℕ, _-_}
 use lib.ListN.{length, take, drop}
 use Rattle.std.proofs.shelf.Lists.{length-map, take-map, drop-map, map-append}
