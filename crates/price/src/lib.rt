@@ -2,6 +2,7 @@
 ghost use mathlib.Core.Path.{_≡_};
 ghost use mathlib.Core.Bool.{true};
 ghost use Prim.Native.Nat.{ℕ, _+_, _^_, _≤_};
+ghost use lib.IntN.{_+ℤ_, natAbs};
 ghost use Rattle.price.specs.Laws.{Ops, Laws};
 ghost use Rattle.price.specs.Amounts.{plain-ops, ranked-ops};
 ghost use Rattle.price.specs.Rates.{plain-rate, ranked-rate};
@@ -71,16 +72,17 @@ pub impl Price for Ranked as RankedPrice {
     ghost ops = { ranked-ops };
 
     fn zero() -> Ranked {
+        let nothing = 0;
         Ranked {
-            first: 0,
-            second: 0,
+            first: nothing,
+            second: nothing,
         }
     }
 
     fn add(self, other: Ranked) -> Ranked {
         Ranked {
-            first: self.first + other.first,
-            second: self.second + other.second,
+            first: exact_sum(self.first, other.first),
+            second: exact_sum(self.second, other.second),
         }
     }
 
@@ -100,6 +102,14 @@ pub impl Price for Ranked as RankedPrice {
             self.second <= other.second
         }
     }
+}
+
+// The sum of two numbers that are small enough.
+fn exact_sum(a: i64, b: i64) -> i64
+    requires { ⌜ natAbs a + natAbs b ≤ 2 ^ 40 ⌝ }
+    ensures { λ r. ⌜ r ≡ a +ℤ b ⌝ }
+{
+    a + b
 }
 
 /// What one bend costs, by the weight of its leg and its wet flag.

@@ -21,7 +21,7 @@ unfolding twin
 twin-odd s h = cond-false _ _ _ (ne-eqb (s % 2) 0 h)
 
 -- what omega needs of a twin
-twin-is : (s : ℕ) → ((s % 2 ≡ 0) × (twin s ≡ s + 1)) ⊎ ((s % 2 ≡ 1) × (twin s + 1 ≡ s))
+pub twin-is : (s : ℕ) → ((s % 2 ≡ 0) × (twin s ≡ s + 1)) ⊎ ((s % 2 ≡ 1) × (twin s + 1 ≡ s))
 twin-is s = ⊎-elim (λ h. inl (h, twin-even s h)) (λ h. let e = twin-odd s h in inr (omega arith, omega arith)) (cases-eq (s % 2) 0)
 
 pub twin-twin : (s : ℕ) → twin (twin s) ≡ s

@@ -1,0 +1,7 @@
+-- Past the last number there is none.
+use mathlib.Core.Path.{sym}
+use Rattle.std.proofs.shelf.Lists.{getD-past}
+use Rattle.flow_vectors.proofs.number.Needs as need
+
+pub returns-else-i-numbers : need.returns-else-i-numbers
+returns-else-i-numbers c = sym (getD-past (c .args .numbers .now) (c .args .i) 0 (c .if-i-numbers .left))
