@@ -1,18 +1,17 @@
 -- Naming the cycles of a permutation in the order of their least numbers.
 use mathlib.Core.Path.{_≡_, refl, sym, ap, subst, _∙_}
 use mathlib.Core.Logic.{_≢_, ⊎-elim}
-use mathlib.Core.Bool.{true, false}
 use mathlib.Core.List.{List}
-use Prim.Native.Nat.{ℕ, suc, _+_, _<_, _≤_}
+use Prim.Native.Nat.{ℕ, _+_, _<_, _≤_}
 use native.Mathlib.Numerals.{add-one}
 use native.Mathlib.Omega.{arith}
 use lib.ListN.{length, set, getD, length-set}
 use lib.Seq.{getD-set-same, getD-set-other}
 use Rattle.std.proofs.shelf.Tests.{cases-eq, cases-lt, cond-true, cond-false, lt-ltb, le-ltb}
 use Rattle.embedding.specs.Walks.{iter}
-use Rattle.embedding.specs.Laws.{Permutes, On-walk}
+use Rattle.embedding.specs.Laws.{Permutes}
 use Rattle.embedding.specs.Tables.{Holds}
-use Rattle.embedding.proofs.Orbit.{iter-lt, back, fold-back, low-all, low-lt, low-on, low-low, same-low, low-meets}
+use Rattle.embedding.proofs.Orbit.{iter-lt, back, fold-back, low-all, low-lt, low-low, same-low, low-meets}
 use Rattle.cycles.specs.Cycles.{at, cycle-name, named-below}
 
 -- k steps of the walk from e have been taken and named

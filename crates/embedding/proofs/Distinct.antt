@@ -1,13 +1,12 @@
 -- A list that a survey can hold has bearings below 3600, and no two ends of one station with equal ones.
 use mathlib.Core.Path.{_≡_, refl, sym, ap, _∙_}
 use mathlib.Core.Logic.{⊎-elim}
-use mathlib.Core.Bool.{Bool, true, false, cond, not, _&&_, _||_}
+use mathlib.Core.Bool.{Bool, true, false, cond, not, _||_}
 use mathlib.Core.List.{List, [], _∷_}
-use Prim.Native.Nat.{ℕ, zero, suc, _/_, _%_, _<_, _≤_}
+use Prim.Native.Nat.{ℕ, zero, suc, _/_, _<_, _≤_}
 use native.Mathlib.Omega.{arith}
-use lib.Dec.{eqb, ltb}
 use lib.ListN.{length, getD}
-use Rattle.std.proofs.shelf.Tests.{cases-lt, cases-eq, cases-order, cases-bool, cond-both, eqb-true, eqb-false, eq-eqb, both-ways, not-true, and-from, or-left, or-right, ltb-false}
+use Rattle.std.proofs.shelf.Tests.{cases-lt, cases-order, cases-bool, cond-both, eqb-true, eqb-false, eq-eqb, both-ways, not-true, and-from, or-left, or-right, ltb-false}
 use Rattle.std.proofs.shelf.Ways.{tells}
 use Rattle.std.proofs.shelf.Lists.{getD-past}
 use Rattle.survey.specs.declared.leg.Leg.{Leg}

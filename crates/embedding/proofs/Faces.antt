@@ -1,15 +1,14 @@
 -- The laws of rotations and faces.
-use mathlib.Core.Path.{_≡_, refl, sym, ap, subst, _∙_}
+use mathlib.Core.Path.{_≡_, refl, sym, ap, _∙_}
 use mathlib.Core.Logic.{_⊎_, inl, inr, ⊎-elim}
 use mathlib.Core.Bool.{true, false}
 use mathlib.Core.List.{List}
-use Prim.Native.Nat.{ℕ, _+_, _-_, _*_, _%_, _<_, _≤_}
+use Prim.Native.Nat.{ℕ, _+_, _-_, _*_, _%_, _<_}
 use native.Mathlib.Omega.{arith}
 use lib.ListN.{length}
 use Rattle.std.proofs.shelf.Tests.{cases-bool, cond-true, cond-false, eqb-true, eqb-false, eq-eqb, ne-eqb}
 use Rattle.survey.specs.declared.leg.Leg.{Leg}
 use Rattle.survey.specs.Ends.{ends, outgoing}
-use Rattle.survey.specs.Model.{valid-legs}
 use Rattle.embedding.specs.Rotation.{twin, next, face-step, face, angle-face}
 use Rattle.embedding.specs.Laws.{Distinct, Permutes, One-face, Lies-in, Embedding-laws, Embedding-stands}
 use Rattle.embedding.proofs.Orbit.{back, same-low, low-meets, low-on, low-lt, low-low, on-walk-sym, on-walk-trans}

@@ -4,7 +4,6 @@ use mathlib.Core.Logic.{_↔_}
 use mathlib.Core.Bool.{true}
 use mathlib.Core.List.{List}
 use Prim.Native.Nat.{ℕ, _<_, _≤_}
-use lib.ListN.{getD}
 use Rattle.survey.specs.declared.leg.Leg.{Leg}
 use Rattle.survey.specs.Ends.{ends, station, bearing}
 use Rattle.survey.specs.Model.{valid-legs}

@@ -1,5 +1,4 @@
 // The embedding of a cave in the plane: ends in rotation round their stations, and the faces between them.
-ghost use mathlib.Core.Path.{_≡_};
 ghost use Rattle.embedding.specs.Laws.{Embedding-stands};
 
 /// For every list that a survey can hold: rotations permute the ends of each station, face walks close and part the

@@ -1,19 +1,17 @@
 -- Marks that spread stay sound, and closed ones mark just the joined legs.
-use mathlib.Core.Path.{_≡_, refl, sym, ap, subst, _∙_}
+use mathlib.Core.Path.{_≡_, refl, sym, subst, _∙_}
 use mathlib.Core.Logic.{_≢_, _⊎_, inl, inr, ⊎-elim}
 use mathlib.Core.Bool.{Bool, true, false, not, _&&_, _||_}
 use mathlib.Core.List.{List}
-use Prim.Native.Nat.{ℕ, _<_, _≤_}
+use Prim.Native.Nat.{ℕ, _<_}
 use native.Mathlib.Omega.{arith}
 use lib.Dec.{eqb}
-use lib.ListN.{length, set, getD, length-set}
+use lib.ListN.{length, set, length-set}
 use lib.Seq.{getD-set-same, getD-set-other}
 use Rattle.std.proofs.shelf.Tests.{cases-eq, cases-bool, both-ways, eq-eqb, eqb-true, or-cases, or-left, or-right, and-from, and-parts, and-left, and-right, not-true, not-from-true, not-from-false}
 use Rattle.survey.specs.declared.leg.Leg.{Leg}
-use Rattle.survey.specs.Ends.{no-leg}
-use Rattle.embedding.specs.Joins.{touch, touch-at, Joined, joined}
+use Rattle.embedding.specs.Joins.{touch-at, Joined, joined}
 use Rattle.embedding.specs.Joins.Joined.{first, along}
-use Rattle.embedding.specs.Tables.{Holds}
 use Rattle.embedding.proofs.Reached.{count-lt, joined-lt, decides-joined}
 use Rattle.plan_check.specs.Marks.{marked, from-at, to-at, Sound, Closed, open-legs}
 

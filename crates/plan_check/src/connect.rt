@@ -1,7 +1,7 @@
 // Which legs are joined to leg 0: marks spread over the stations until nothing changes.
 ghost use mathlib.Core.Path.{_≡_};
 ghost use mathlib.Core.Bool.{true, false, not, Bool·beq};
-ghost use Prim.Native.Nat.{ℕ, _<_, _≤_};
+ghost use Prim.Native.Nat.{_<_};
 ghost use lib.ListN.{length, set};
 ghost use Rattle.survey.specs.Model.{valid-legs};
 ghost use Rattle.embedding.specs.Plans.{first-apart};

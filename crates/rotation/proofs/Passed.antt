@@ -10,7 +10,6 @@ use Rattle.survey.specs.declared.leg.Leg.{Leg}
 use Rattle.survey.specs.Ends.{ends, station, bearing}
 use Rattle.survey.specs.Model.{valid-legs}
 use Rattle.embedding.specs.Rotation.{gap, next}
-use Rattle.embedding.specs.Laws.{Follows}
 use Rattle.embedding.proofs.Distinct.{distinct}
 use Rattle.embedding.proofs.Following.{follows-one}
 use Rattle.rotation.specs.Chains.{last-end, end-before}

@@ -1,7 +1,7 @@
 // Rotations: for each end of a list of legs, the one that follows it clockwise round its station.
 ghost use mathlib.Core.Path.{_≡_};
 ghost use mathlib.Core.Bool.{true};
-ghost use Prim.Native.Nat.{ℕ, _<_, _≤_};
+ghost use Prim.Native.Nat.{_<_, _≤_};
 ghost use lib.ListN.{length};
 ghost use Rattle.survey.specs.Ends.{ends, station, stations as stations-of};
 ghost use Rattle.survey.specs.Model.{valid-legs};

@@ -1,12 +1,11 @@
 -- The table of steps is the face walk, and the names of its cycles are the faces.
-use mathlib.Core.Path.{_≡_, sym, _∙_}
+use mathlib.Core.Path.{_∙_}
 use native.Mathlib.Omega.{arith}
 use Rattle.survey.specs.Ends.{ends}
 use Rattle.embedding.specs.Rotation.{face-step, face}
 use Rattle.embedding.proofs.Orbit.{permutes-same, lowest-same}
 use Rattle.embedding.proofs.Distinct.{distinct}
 use Rattle.embedding.proofs.Faces.{walks}
-use Rattle.cycles.specs.Cycles.{at}
 use Rattle.faces.proofs.fill_faces.Needs as need
 
 pub name-cycles-requires : need.name-cycles-requires

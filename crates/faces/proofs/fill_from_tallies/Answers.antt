@@ -1,6 +1,5 @@
 -- A face has at most as many source switches as there are ends.
-use mathlib.Core.Bool.{Bool, _&&_}
-use Prim.Native.Nat.{ℕ}
+use mathlib.Core.Bool.{_&&_}
 use native.Mathlib.Omega.{arith}
 use lib.Dec.{eqb}
 use Rattle.survey.specs.Ends.{ends}

@@ -1,6 +1,5 @@
 -- There are at most as many stations and faces as ends.
 use Prim.Native.Nat.{ℕ}
-use native.Mathlib.Omega.{arith}
 use borrow.Author.Needs.{needs}
 use lib.Dec.{eqb}
 use Rattle.survey.specs.Ends.{ends, first-at-station}

@@ -1,9 +1,8 @@
 -- One end more is linked.
 use mathlib.Core.Path.{_≡_, sym, subst, ap, _∙_}
-use mathlib.Core.List.{List}
-use Prim.Native.Nat.{ℕ, _+_, _<_}
+use Prim.Native.Nat.{ℕ, _+_}
 use native.Mathlib.Omega.{arith}
-use lib.ListN.{length, set, getD}
+use lib.ListN.{set, getD}
 use Rattle.survey.specs.Ends.{station}
 use Rattle.embedding.specs.Tables.{Holds}
 use Rattle.embedding.proofs.Distinct.{station-lt}

@@ -1,12 +1,10 @@
 -- What was read is what the survey holds: accepted, it is a plan.
-use mathlib.Core.Path.{_≡_, refl, sym, ap, _∙_}
-use mathlib.Core.Bool.{cond}
+use mathlib.Core.Path.{refl, sym, ap, _∙_}
 use mathlib.Core.List.{List}
-use Prim.Native.Nat.{ℕ, _<_, _≤_}
 use native.Mathlib.Omega.{arith}
-use lib.ListN.{length, take}
+use lib.ListN.{length}
 use Rattle.std.proofs.shelf.Tests.{cond-false}
-use Rattle.refusal.specs.Answers.{accepted, refused}
+use Rattle.refusal.specs.Answers.{refused}
 use Rattle.survey.specs.declared.leg.Leg.{Leg}
 use Rattle.survey.specs.Model.{valid-legs, is-accepted}
 use Rattle.survey.proofs.Accepted.{refused-not}

@@ -1,15 +1,13 @@
 -- One leg more is copied; a query below the count is never refused.
 use mathlib.Core.Path.{_≡_, sym, ap, subst, _∙_}
-use mathlib.Core.Bool.{Bool, true, false}
 use mathlib.Core.List.{List}
 use Prim.Native.Nat.{ℕ, _+_, _<_}
 use native.Mathlib.Omega.{arith}
 use lib.ListN.{length, take, set, getD}
-use lib.Seq.{getD-set-same}
 use Rattle.std.proofs.shelf.Lists.{take-more, take-more-set, take-all}
 use Rattle.std.proofs.shelf.Tests.{both-ways}
 use Rattle.refusal.specs.declared.Refusal.{Refusal}
-use Rattle.refusal.specs.Answers.{Answer, refused}
+use Rattle.refusal.specs.Answers.{refused}
 use Rattle.survey.specs.declared.leg.Leg.{Leg}
 use Rattle.survey.specs.Ends.{no-leg}
 use Rattle.survey.specs.Model.{leg-told, query-answer, is-accepted}

@@ -1,7 +1,6 @@
 -- One leg more is found joined, or not.
 use mathlib.Core.Path.{_≡_, sym, ap, _∙_}
-use mathlib.Core.Bool.{true, false, not}
-use Prim.Native.Nat.{_<_}
+use mathlib.Core.Bool.{not}
 use native.Mathlib.Omega.{arith}
 use lib.ListN.{length}
 use Rattle.embedding.specs.Joins.{joined}

@@ -1,5 +1,4 @@
 -- Marks stay sound; each round has fewer legs without both stations marked.
-use Prim.Native.Nat.{ℕ}
 use Rattle.plan_check.specs.Marks.{Sound, open-legs}
 use Rattle.plan_check.proofs.connect.mark_joined.Given as given
 

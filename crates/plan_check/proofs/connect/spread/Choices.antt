@@ -2,7 +2,6 @@
 use mathlib.Core.Path.{_≡_}
 use mathlib.Core.Bool.{true, false}
 use Prim.Native.Nat.{ℕ, _<_}
-use lib.ListN.{length}
 use Rattle.plan_check.specs.Marks.{marked, from-at, to-at, Sound, open-legs}
 use Rattle.plan_check.proofs.connect.spread.Given as given
 

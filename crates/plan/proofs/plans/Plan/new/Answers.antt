@@ -1,6 +1,5 @@
 -- One leg is accepted.
 use mathlib.Core.Path.{refl}
-use native.Mathlib.Omega.{arith}
 use lib.Dec.{lit≤}
 use Rattle.embedding.specs.Rotation.{next, face}
 use Rattle.embedding.specs.Joins.{joined}
