@@ -12,6 +12,7 @@ ghost use Rattle.survey_runs.specs.Stack.{top-shows, top-sends, upper-shows, u
 ghost use Rattle.survey_runs.specs.Ran.{Ran, journal-allows, table-enters, table-amends};
 use journal::JournalSurvey;
 use journal::SurveyJournal;
+use plan::plans::Plan;
 use survey::LentSurvey;
 use survey::Survey;
 use survey::leg::Change;
@@ -50,7 +51,7 @@ fn send_reversed<S: Survey>(below: &mut S, turn: u32, steps: &mut [Step])
     send_declined(&mut reversed, turn, steps);
 }
 
-// The top of the stack.
+// The top of the stack. Calls to plan fill a plan that is let go.
 fn send_declined<S: Survey>(below: &mut S, turn: u32, steps: &mut [Step])
     ensures { λ _. ⌜ Sent (λ s. top-shows (turn % 3600) (legs s)) enters amends (λ s cs t. leads s (top-sends (turn % 3600) cs) t) (now (below .entry)) (now (steps .entry)) (now (steps .exit)) (now (below .exit)) ⌝ }
 {
@@ -58,7 +59,8 @@ fn send_declined<S: Survey>(below: &mut S, turn: u32, steps: &mut [Step])
         view: Declination::new(turn),
         below,
     };
-    transcript::send(&mut declined, steps);
+    let mut plan = Plan::new();
+    transcript::send(&mut declined, steps, &mut plan);
 }
 
 /// Sends the steps through the stack of views to a new journal over these entries.

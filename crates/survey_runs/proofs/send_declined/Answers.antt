@@ -13,7 +13,7 @@ pub returns : need.returns
 returns g c =
     let h = g .S·Survey in
     let P : ℕ → g .S .Denot → Type 0 = λ d t. Sent (λ s. top-shows d (h .legs s)) (h .enters) (h .amends) (λ s cs t. h .leads s (top-sends d cs) t) (c .args .below .now) (c .args .steps .now) (c .send .last .steps) t in
-    let q = viewed-sent (h .legs) (h .enters) (h .amends) (h .leads) (λ x. x) (λ x. x) (λ v. declination-shows (v .turn)) (λ v. declination-sends (v .turn)) _ _ _ _ (c .send .ensures) in
+    let q = viewed-sent (h .legs) (h .enters) (h .amends) (h .leads) (λ x. x) (λ x. x) (λ v. declination-shows (v .turn)) (λ v. declination-sends (v .turn)) _ _ _ _ (c .send .ensures .sent) in
     let b : Of (P (c .args .turn % 3600)) (now (c .send .last .survey .below)) = that (subst (λ (d : ℕ). P d (now (c .send .last .survey .below))) (c .new .ensures) q) in
-    let n = c .send .ensures .led .1 .0 in
+    let n = c .send .ensures .sent .led .1 .0 in
     of-it (P (c .args .turn % 3600)) _ (search needs)
