@@ -131,7 +131,7 @@ fn tell(answer: Result<Reply, Refusal>) -> Told
 {
     let (number, values) = match answer {
         Ok(Reply::Unsent) => (0, [u32::MAX; 6]),
-        Ok(Reply::Changed) => (0, [0; 6]),
+        Ok(Reply::Changed | Reply::Planned) => (0, [0; 6]),
         Ok(Reply::Counted(n)) => (0, [small(n), 0, 0, 0, 0, 0]),
         Ok(Reply::Found(leg)) => (0, numbers_of(leg)),
         Ok(Reply::Allowed(may)) => (0, [u32::from(may), 0, 0, 0, 0, 0]),

@@ -20,4 +20,5 @@ returns-in-LegAt g c =
       list = ap (λ (x : Call). call-legs (h .legs s) (h .enters s) (h .amends s) x) k;
       led = subst L k (h .leading .stays s);
       kept = λ _. (refl, refl);
-      plan = ap (λ (x : Call). call-plan (h .legs s) (plan-state (c .args .plan .now)) x) k }
+      plan = ap (λ (x : Call). call-plan (h .legs s) (plan-state (c .args .plan .now)) x) k;
+    }

@@ -23,10 +23,12 @@ loop-i-again g c =
     let i = c .loop-i .i in
     let m = c .send-one-sent .ensures in
     let x = c .send-one-sent .result in
-    let lt : i < length xs = omega (arith, c .loop-i-test .taken, c .loop-i .kept .steps) in
-    (calls-set xs i x (unsent (Change (Enter no-leg))) lt (m .call) ∙ c .loop-i .inv .0, push-set (h .legs) (h .enters) (h .amends) (h .leads) (c .args .survey .now) xs i (c .loop-i .survey) x (c .send-one-sent .last .survey) lt (c .loop-i .inv .1) (m .recorded),
-     plan-set (h .legs (c .args .survey .now)) (h .legs (c .loop-i .survey)) (plan-state (c .args .plan .now)) (plan-state (c .loop-i .plan)) (plan-state (c .send-one-sent .last .plan)) xs i x lt
-        (trace-list (h .legs) (h .enters) (h .amends) (h .leads) (c .args .survey .now) (take i xs) (c .loop-i .survey) (c .loop-i .inv .1)) (c .loop-i .inv .2) (m .plan ∙ ap (call-plan (h .legs (c .loop-i .survey)) (plan-state (c .loop-i .plan))) (sym (m .call))))
+    let lt : i < length xs = omega (arith, c .loop-i-test .taken, c .loop-i .kept .steps) in (
+      calls-set xs i x (unsent (Change (Enter no-leg))) lt (m .call) ∙ c .loop-i .inv .0,
+      push-set (h .legs) (h .enters) (h .amends) (h .leads) (c .args .survey .now) xs i (c .loop-i .survey) x (c .send-one-sent .last .survey) lt (c .loop-i .inv .1) (m .recorded),
+      plan-set (h .legs (c .args .survey .now)) (h .legs (c .loop-i .survey)) (plan-state (c .args .plan .now)) (plan-state (c .loop-i .plan)) (plan-state (c .send-one-sent .last .plan)) xs i x lt
+          (trace-list (h .legs) (h .enters) (h .amends) (h .leads) (c .args .survey .now) (take i xs) (c .loop-i .survey) (c .loop-i .inv .1)) (c .loop-i .inv .2) (m .plan ∙ ap (call-plan (h .legs (c .loop-i .survey)) (plan-state (c .loop-i .plan))) (sym (m .call))),
+    )
 
 pub returns : need.returns
 returns g c =
@@ -39,4 +41,5 @@ returns g c =
     record {
       sent = trace-sent (h .legs) (h .enters) (h .amends) (h .leads) (h .leading) s (c .args .steps .now) xs t (c .loop-i .inv .0)
           (subst (λ (ys : List Step). Trace (h .legs) (h .enters) (h .amends) (h .leads) s ys t) e (c .loop-i .inv .1));
-      plan = c .loop-i .inv .2 ∙ ap (run-plan (h .legs s) (plan-state (c .args .plan .now))) e }
+      plan = c .loop-i .inv .2 ∙ ap (run-plan (h .legs s) (plan-state (c .args .plan .now))) e;
+    }
