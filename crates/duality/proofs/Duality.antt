@@ -1,11 +1,10 @@
 -- Potentials bound the price of every flow: when a flow is cheapest, and when none meets the demands.
-use mathlib.Core.Path.{_≡_, refl, sym, ap, _∙_, subst}
-use mathlib.Core.Bool.{cond}
+use mathlib.Core.Path.{_≡_, _∙_, subst}
 use native.Mathlib.Decide.{decLe}
-use Prim.Native.Nat.{ℕ, zero, suc, _+_, _-_, _≤_, _<_}
+use Prim.Native.Nat.{ℕ, _+_, _-_, _≤_, _<_}
 use native.Mathlib.Omega.{arith}
 use Rattle.duality.specs.Sums.{Ordered, sum, times, at}
-use Rattle.duality.proofs.Exchange.{swap, both, sum-ext, sum-add, sum-mono, times-add, exchange}
+use Rattle.duality.proofs.Exchange.{swap, sum-ext, sum-add, sum-mono, times-add, exchange}
 
 module _ {P : Type 0} {o : P} {add : P → P → P} {le : P → P → Type 0} (laws : Ordered o add le) where
   -- the worth of amounts at nodes adds

@@ -1,14 +1,14 @@
 -- A flow with a certificate is least, and a closed set that holds a surplus and no shortage refutes the demands.
-use mathlib.Core.Path.{_≡_, refl, sym, ap, _∙_, subst}
+use mathlib.Core.Path.{_≡_, refl, ap}
 use mathlib.Core.Bool.{Bool, true, false, cond}
-use mathlib.Core.Logic.{_⊎_, inl, inr, ⊎-elim}
+use mathlib.Core.Logic.{_⊎_, ⊎-elim}
 use Prim.Native.Nat.{ℕ, zero, suc, _+_, _-_, _≤_, _<_}
 use native.Mathlib.Decide.{ℕ-discrete}
 use native.Mathlib.Omega.{arith}
 use Rattle.price.specs.Laws.{Ops, Laws}
 use Rattle.duality.specs.Sums.{Ordered, sum, times}
 use Rattle.duality.specs.Flows.{Net, Within, into, out-of, Fits, Same, Meets, price-of, Certificate, Closed}
-use Rattle.duality.proofs.Exchange.{swap, both, sum-ext, sum-add, sum-mono, sum-zero, times-add, exchange}
+use Rattle.duality.proofs.Exchange.{sum-ext, sum-mono, sum-zero}
 use Rattle.duality.proofs.Duality.{linear, worth-add}
 
 -- every kind of price is such a monoid

@@ -3,7 +3,6 @@ use mathlib.Core.Path.{_≡_, refl}
 use native.Mathlib.Omega.{arith}
 use lib.IntN.{+ℤ-assoc, +ℤ-comm, +ℤ-idr, +ℤ-invr}
 use Rattle.std.proofs.shelf.Signed.{ints}
-use Rattle.price.specs.declared.Ranked.{Ranked}
 use Rattle.price.specs.Laws.{Laws}
 use Rattle.price.specs.Amounts.{ranked, ranked-ops}
 

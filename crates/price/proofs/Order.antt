@@ -1,8 +1,7 @@
 -- What the laws of prices give: an order that adding keeps, and differences.
-use mathlib.Core.Path.{_≡_, refl, sym, ap, subst, _∙_}
-use mathlib.Core.Bool.{Bool, true, false}
-use mathlib.Core.Logic.{_⊎_, inl, inr, ⊎-elim}
-use Prim.Native.Nat.{ℕ}
+use mathlib.Core.Path.{_≡_, sym, ap, _∙_}
+use mathlib.Core.Bool.{true, false}
+use mathlib.Core.Logic.{_⊎_, ⊎-elim}
 use Rattle.std.proofs.shelf.Tests.{both-ways, cases-bool}
 use Rattle.price.specs.Laws.{Ops, Laws}
 
@@ -43,9 +42,6 @@ module _ {P : Type 0} {ops : Ops P} (L : Laws ops) where
       let far : ops .leq (ops .plus (ops .plus a (ops .minus x)) y) (ops .plus a c) ≡ true = rw (across a x c) at (kept-left y (ops .plus x c) (ops .plus a (ops .minus x)) k) in
       both-ways _ h (L .trans _ _ _ low far))
 
-  -- strictly below, then at most
-  pub lt-le : (a b c : P) → ops .leq b a ≡ false → ops .leq b c ≡ true → ops .leq c a ≡ false
-  lt-le a b c h k = le-false _ _ (λ over. both-ways _ h (L .trans _ _ _ k over))
-
+  -- at most, then strictly below
   pub le-lt : (a b c : P) → ops .leq a b ≡ true → ops .leq c b ≡ false → ops .leq c a ≡ false
   le-lt a b c h k = le-false _ _ (λ over. both-ways _ k (L .trans _ _ _ over h))

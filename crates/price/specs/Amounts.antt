@@ -1,6 +1,6 @@
 -- The two kinds of price: a whole number, and two that are ordered by the first and then by the second.
 use mathlib.Core.Bool.{Bool, true, false, cond}
-use Prim.Native.Nat.{ℕ, max}
+use Prim.Native.Nat.{max}
 use lib.IntN.{ℤ, pos, _+ℤ_, negℤ, natAbs}
 use lib.Signed.{ltZ, leZ}
 use Rattle.price.specs.declared.Plain.{Plain}

@@ -1,11 +1,10 @@
 -- What the loop over rounds keeps.
 use mathlib.Core.Path.{_≡_, refl, sym, ap, subst, _∙_}
 use mathlib.Core.List.{List}
-use mathlib.Core.Bool.{Bool, true, false}
-use Prim.Native.Nat.{ℕ, zero, suc, _+_, _*_, _≤_, _<_}
+use mathlib.Core.Bool.{true, false}
+use Prim.Native.Nat.{ℕ, _+_, _*_, _≤_, _<_}
 use native.Mathlib.Omega.{arith}
-use lib.ListN.{length, take}
-use lib.Seq.{take-all}
+use lib.ListN.{length}
 use Rattle.price.specs.Laws.{Ops, Laws}
 use Rattle.search.specs.declared.Label.{Label}
 use Rattle.search.specs.Labels.{label-at, Sized, Fresh}

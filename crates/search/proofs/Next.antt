@@ -1,18 +1,17 @@
--- Settled labels are the next potential, also for moves back along a chain.
-use mathlib.Core.Path.{_≡_, refl, sym, ap, subst, _∙_}
-use mathlib.Core.List.{List, [], _∷_}
-use mathlib.Core.Bool.{Bool, true, false, cond}
-use mathlib.Core.Logic.{_⊎_, inl, inr, ⊎-elim}
-use Prim.Native.Nat.{ℕ, zero, suc, _+_, _≤_, _<_}
+-- The prices of labels at rest are a potential, lifted where there are none.
+use mathlib.Core.Path.{_≡_, sym, ap, subst, _∙_}
+use mathlib.Core.List.{List}
+use mathlib.Core.Bool.{true, false, cond}
+use mathlib.Core.Logic.{_⊎_, ⊎-elim}
+use Prim.Native.Nat.{ℕ, zero, suc, _<_}
 use native.Mathlib.Omega.{arith}
-use lib.ListN.{length, getD}
 use Rattle.std.proofs.shelf.Tests.{cases-bool, cases-eq, cond-true, cond-false}
 use Rattle.price.specs.Laws.{Ops, Laws}
 use Rattle.search.specs.declared.Label.{Label}
 use Rattle.search.specs.Labels.{reached, label-at}
 use Rattle.search.specs.Moves.{Move}
 use Rattle.search.specs.Paths.{Safe, Settled}
-use Rattle.price.proofs.Order.{le-refl, add-sub, sub-add, kept-left}
+use Rattle.price.proofs.Order.{le-refl, sub-add, kept-left}
 
 module _ {P : Type 0} {ops : Ops P} (L : Laws ops) where
   -- some price is over f of each move
@@ -65,11 +64,3 @@ module _ {P : Type 0} {ops : Ops P} (L : Laws ops) where
         (λ t. subst (λ z. ops .leq z (ops .plus (ops .plus (pot (m .origin)) (m .cost)) lift) ≡ true) (sym (pot-other (m .target) t)) (L .kept _ _ lift (safe i lt)))
         (cases-bool (reached (here (m .target)))))))
         (cases-bool (reached (here (m .origin))))
-
-    -- the move back along a move that a label came by
-    pub back-safe : (i : ℕ) → i < count → reached (here (moves i .origin)) ≡ true → here (moves i .target) .price ≡ ops .plus (here (moves i .origin) .price) (moves i .cost) → ops .leq (next-pot (moves i .origin)) (ops .plus (next-pot (moves i .target)) (ops .minus (moves i .cost))) ≡ true
-    back-safe i lt o e =
-        let m : Move P = moves i in
-        let r = settled .relaxed i lt o in
-        let same : ops .plus (next-pot (m .target)) (ops .minus (m .cost)) ≡ next-pot (m .origin) = ap (λ z. ops .plus z (ops .minus (m .cost))) (pot-reached (m .target) (r .0) ∙ e) ∙ add-sub L _ _ ∙ sym (pot-reached (m .origin) o) in
-        subst (λ z. ops .leq (next-pot (m .origin)) z ≡ true) (sym same) (le-refl L _)

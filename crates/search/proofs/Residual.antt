@@ -3,11 +3,11 @@ use mathlib.Core.Path.{_≡_, refl, sym, ap, subst, _∙_}
 use mathlib.Core.Bool.{Bool, true, false, cond, not, _&&_, _||_}
 use mathlib.Core.List.{List}
 use mathlib.Core.Logic.{_⊎_, inl, inr, ⊎-elim}
-use Prim.Native.Nat.{ℕ, _+_, _%_, _≤_, _<_}
+use Prim.Native.Nat.{ℕ, _%_, _≤_, _<_}
 use native.Mathlib.Omega.{arith}
 use lib.Dec.{eqb, ltb}
 use lib.ListN.{length}
-use Rattle.std.proofs.shelf.Tests.{cases-lt, cond-true, cond-false, cond-both, eq-eqb, ne-eqb, lt-ltb, le-ltb}
+use Rattle.std.proofs.shelf.Tests.{cases-lt, cond-true, cond-false, cond-both, ne-eqb, lt-ltb, le-ltb}
 use Rattle.price.specs.Laws.{Ops, Laws}
 use Rattle.price.proofs.Order.{le-refl}
 use Rattle.search.specs.declared.Label.{Label}

@@ -3,24 +3,23 @@ use mathlib.Core.Path.{_≡_, refl, sym, ap, subst, _∙_}
 use mathlib.Core.List.{List, [], _∷_}
 use mathlib.Core.Bool.{Bool, true, false, not, cond, _&&_, _||_}
 use mathlib.Core.Logic.{_⊎_, inl, inr, ⊎-elim}
-use Prim.Native.Nat.{ℕ, zero, suc, _+_, _*_, _≤_, _<_}
+use Prim.Native.Nat.{ℕ, zero, suc, _+_, _≤_, _<_}
 use native.Mathlib.Omega.{arith}
 use native.Mathlib.Numerals.{add-one}
 use lib.Dec.{eqb}
-use lib.ListN.{length, getD, set, take, length-set}
-use lib.Seq.{take-all, getD-set-same, getD-set-other}
+use lib.ListN.{length, set, length-set}
+use lib.Seq.{getD-set-same, getD-set-other}
 use Rattle.std.specs.shelf.Lists.{All}
 use Rattle.std.proofs.shelf.Lists.{getD-past}
-use Rattle.std.proofs.shelf.Sums.{folded-more}
-use Rattle.std.proofs.shelf.Tests.{cases-eq, cases-lt, cases-bool, both-ways, eq-eqb, ne-eqb, and-parts, and-from, not-true, not-false, or-parts, or-cases, cond-true, cond-false}
+use Rattle.std.proofs.shelf.Tests.{cases-eq, cases-lt, cases-bool, both-ways, eq-eqb, ne-eqb, and-parts, and-from, not-true, cond-true, cond-false}
 use Rattle.search.specs.declared.Label.{Label}
 use Rattle.search.specs.Labels.{reached, label-at, blank, came}
-use Rattle.search.specs.Moves.{Move, State, better, moved, step, swept}
+use Rattle.search.specs.Moves.{State, better, step, swept}
 use Rattle.search.specs.Paths.{Chain, root, back, Settled}
-use Rattle.search.proofs.Pigeon.{Lacks, Distinct, pigeon}
-use Rattle.price.specs.Laws.{Ops, Laws}
+use Rattle.search.proofs.Pigeon.{Distinct, pigeon}
+use Rattle.price.specs.Laws.{Ops}
 use Rattle.search.proofs.Sweep.{start}
-use Rattle.search.proofs.Tree.{Guarded, mv, Tight, Relaxed, Recent, Inv, improved, came-from, low-reached}
+use Rattle.search.proofs.Tree.{Guarded, mv, Tight, Relaxed, Inv, improved, came-from, low-reached}
 
 -- chains do not branch
 pub det : {P : Type 0} (from : ℕ → ℕ → ℕ) (at : ℕ → Label P) {v k l : ℕ} → Chain from at v k → Chain from at v l → k ≡ l

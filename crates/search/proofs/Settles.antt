@@ -1,14 +1,14 @@
 -- One round of tries more, on places of which the first n are labels.
-use mathlib.Core.Path.{_≡_, refl, sym, ap, subst, _∙_}
+use mathlib.Core.Path.{_≡_, sym, ap, subst, _∙_}
 use mathlib.Core.Bool.{Bool, true, false}
 use mathlib.Core.List.{List}
-use Prim.Native.Nat.{ℕ, _+_, _*_, _≤_, _<_}
+use Prim.Native.Nat.{ℕ, _+_, _*_, _≤_}
 use native.Mathlib.Omega.{arith}
 use lib.ListN.{length, take}
 use Rattle.price.specs.Laws.{Ops, Laws}
 use Rattle.search.specs.declared.Label.{Label}
 use Rattle.search.specs.declared.Side.{Side}
-use Rattle.search.specs.Labels.{label-at, Lower, Roots, Sized}
+use Rattle.search.specs.Labels.{Lower, Roots, Sized}
 use Rattle.search.specs.Moves.{Move, State, swept}
 use Rattle.search.specs.Paths.{Safe, Named, Settled}
 use Rattle.search.specs.Networks.{units}

@@ -8,7 +8,7 @@ use native.Mathlib.Omega.{arith}
 use lib.ListN.{length, getD, set, take, length-set}
 use lib.Seq.{getD-set-same, getD-set-other}
 use Rattle.std.proofs.shelf.Lists.{getD-take}
-use Rattle.std.proofs.shelf.Tests.{cases-eq, cases-bool, cond-both, and-cases, and-parts, not-true, both-ways, ne-eqb, not-from-false}
+use Rattle.std.proofs.shelf.Tests.{cases-eq, cond-both, and-cases, and-parts, not-true, both-ways, ne-eqb, not-from-false}
 use Rattle.price.specs.Laws.{Ops, Laws}
 use Rattle.price.proofs.Order.{le-refl, le-flip}
 use Rattle.search.specs.declared.Label.{Label}

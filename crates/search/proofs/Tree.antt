@@ -1,20 +1,16 @@
 -- What the search keeps, try by try: the chains end in roots, and are long where a label changed late.
 use mathlib.Core.Path.{_≡_, refl, sym, ap, subst, _∙_}
-use mathlib.Core.List.{List, [], _∷_}
-use mathlib.Core.Bool.{Bool, true, false, not}
+use mathlib.Core.Bool.{true, false}
 use mathlib.Core.Logic.{_⊎_, inl, inr, ⊎-elim}
 use Prim.Native.Nat.{ℕ, zero, suc, _+_, _≤_, _<_}
 use native.Mathlib.Omega.{arith}
-use lib.ListN.{length}
-use Rattle.std.specs.shelf.Lists.{All}
-use Rattle.std.proofs.shelf.Tests.{cases-eq, cases-lt, both-ways, ne-eqb, not-from-false}
+use Rattle.std.proofs.shelf.Tests.{cases-eq, both-ways, ne-eqb, not-from-false}
 use Rattle.price.specs.Laws.{Ops, Laws}
 use Rattle.search.specs.declared.Label.{Label}
 use Rattle.search.specs.Labels.{reached}
 use Rattle.search.specs.Moves.{Move}
 use Rattle.search.specs.Paths.{Chain, root, back, Safe, Named}
-use Rattle.price.proofs.Order.{le-refl, le-flip, along, strictly, le-lt, kept-left}
-use Rattle.search.proofs.Pigeon.{Lacks, Distinct, pigeon}
+use Rattle.price.proofs.Order.{le-refl, le-flip, along, strictly, le-lt}
 
 -- moves with a potential
 pub record Guarded (P : Type 0) : Type 0 where

@@ -6,7 +6,7 @@ ghost use lib.ListN.{length, set, take};
 ghost use denote.Ref.{name};
 ghost use Rattle.slice_vec.specs.Places.{at-item};
 ghost use Rattle.search.specs.Labels.{first-of, blank, label-at, below, improves, tried, Lower, Roots, Sized, Fresh};
-ghost use Rattle.search.specs.Moves.{State, better, moved, swept};
+ghost use Rattle.search.specs.Moves.{better, moved, swept};
 ghost use Rattle.search.specs.Paths.{Safe, Named, Settled};
 ghost use Rattle.search.specs.Networks.{twin-of, cost-of};
 ghost use Rattle.search.specs.Sides.{fee-of, residual, Proper, Within-room};

@@ -1,12 +1,11 @@
 -- What a search at rest says of the flow: it is least, or no flow meets the demands, or a unit can be sent.
-use mathlib.Core.Path.{_≡_, refl, sym, ap, subst, _∙_}
-use mathlib.Core.Bool.{Bool, true, false, cond}
+use mathlib.Core.Path.{_≡_, sym, ap, subst, _∙_}
+use mathlib.Core.Bool.{true}
 use mathlib.Core.List.{List}
 use mathlib.Core.Logic.{_⊎_, inl, inr, ⊎-elim}
-use Prim.Native.Nat.{ℕ, zero, suc, _+_, _≤_, _<_}
+use Prim.Native.Nat.{ℕ, _+_, _<_}
 use native.Mathlib.Omega.{arith}
-use lib.Dec.{eqb}
-use Rattle.std.proofs.shelf.Tests.{cases-lt, cond-false, ne-eqb}
+use Rattle.std.proofs.shelf.Tests.{cases-lt}
 use Rattle.price.specs.Laws.{Ops, Laws}
 use Rattle.price.proofs.Order.{sub-add, kept-left}
 use Rattle.duality.specs.Sums.{sum, at}
@@ -17,7 +16,7 @@ use Rattle.search.specs.declared.Label.{Label}
 use Rattle.search.specs.Labels.{label-at, reached}
 use Rattle.search.specs.Moves.{Move}
 use Rattle.search.specs.Paths.{Safe, Settled, Chain, root, back}
-use Rattle.search.specs.Networks.{twin, Network, cost-by, move, Open, Usable}
+use Rattle.search.specs.Networks.{twin, Network, move, Open, Usable}
 use Rattle.search.proofs.Twins.{twin-twin, twin-inside}
 use Rattle.search.proofs.Tree.{low-reached}
 use Rattle.search.proofs.Rounds.{det}

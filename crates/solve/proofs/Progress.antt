@@ -1,26 +1,25 @@
 -- The solver's loop: what holds at first, after a unit, and at the end.
 use mathlib.Core.Path.{_≡_, refl, sym, ap, subst, _∙_}
-use mathlib.Core.Bool.{Bool, true, false, cond}
+use mathlib.Core.Bool.{true}
 use mathlib.Core.List.{List}
-use mathlib.Core.Logic.{_⊎_, inl, inr, ⊎-elim}
-use Prim.Native.Nat.{ℕ, zero, suc, _+_, _-_, _≤_, _<_}
+use mathlib.Core.Logic.{_⊎_, ⊎-elim}
+use Prim.Native.Nat.{ℕ, zero, _+_, _-_, _<_}
 use native.Mathlib.Omega.{arith}
 use lib.Dec.{eqb, ltb}
-use lib.ListN.{length, set}
+use lib.ListN.{length}
 use Rattle.std.proofs.shelf.Tests.{cases-lt, cases-bool, cond-true, cond-false, eq-eqb, ne-eqb, lt-ltb, le-ltb, both-ways, not-from-false, not-from-true}
 use Rattle.price.specs.Laws.{Ops, Laws}
-use Rattle.duality.specs.Sums.{sum, at}
-use Rattle.duality.specs.Flows.{Fits}
+use Rattle.duality.specs.Sums.{at}
 use Rattle.duality.proofs.Exchange.{sum-zero}
 use Rattle.duality.proofs.Theorems.{numbers, sum-strict}
 use Rattle.search.specs.declared.Label.{Label}
 use Rattle.search.specs.Labels.{label-at, reached, Lower, Roots, Fresh}
-use Rattle.search.specs.Paths.{Safe, Named, Settled}
+use Rattle.search.specs.Paths.{Named, Settled}
 use Rattle.search.specs.Networks.{twin, Network, units, move, Usable}
 use Rattle.search.proofs.Sweep.{at-set}
 use Rattle.search.proofs.Next.{next-pot, next-safe, pot-reached}
 use Rattle.search.proofs.Residual.{Sound, from-at, named}
-use Rattle.solve.specs.Solutions.{arcs, OneWay, Best, NoFlow, Leaves}
+use Rattle.solve.specs.Solutions.{Best, NoFlow, Leaves}
 use Rattle.solve.specs.Chains.{Way, root, back, Supplied, one-at, Sent, Seeded, Underway, Labelled, Onward, less-one, total}
 use Rattle.solve.proofs.Steady.{held}
 use Rattle.solve.proofs.Ends.{best, uneven, cut, way}

@@ -1,8 +1,8 @@
 -- Potentials that no move undercuts, side by side, and what one unit over a tight side does to them.
-use mathlib.Core.Path.{_≡_, refl, sym, ap, subst, _∙_}
-use mathlib.Core.Bool.{Bool, true}
+use mathlib.Core.Path.{_≡_, sym, ap, subst, _∙_}
+use mathlib.Core.Bool.{true}
 use mathlib.Core.Logic.{_⊎_, ⊎-elim}
-use Prim.Native.Nat.{ℕ, _+_, _<_}
+use Prim.Native.Nat.{ℕ, _<_}
 use native.Mathlib.Omega.{arith}
 use Rattle.price.specs.Laws.{Ops, Laws}
 use Rattle.price.proofs.Order.{le-refl, add-sub, sub-add, kept-left}

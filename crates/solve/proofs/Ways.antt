@@ -3,7 +3,7 @@ use mathlib.Core.Path.{_≡_, refl, sym, ap, subst, _∙_}
 use mathlib.Core.Bool.{true}
 use mathlib.Core.List.{List}
 use mathlib.Core.Logic.{_⊎_, inl, inr, ⊎-elim}
-use Prim.Native.Nat.{ℕ, zero, suc, _+_, _≤_, _<_}
+use Prim.Native.Nat.{ℕ, suc, _+_, _≤_, _<_}
 use native.Mathlib.Omega.{arith}
 use lib.ListN.{length}
 use Rattle.std.proofs.shelf.Tests.{ne-eqb, not-from-false}
@@ -13,7 +13,7 @@ use Rattle.search.specs.declared.Label.{Label}
 use Rattle.search.specs.Labels.{label-at, reached}
 use Rattle.search.specs.Paths.{Chain, Safe}
 use Rattle.search.specs.Paths as paths
-use Rattle.search.specs.Networks.{twin, Network, cost-by, move, Open}
+use Rattle.search.specs.Networks.{twin, Network, cost-by, move}
 use Rattle.search.proofs.Twins.{twin-twin, twin-inside}
 use Rattle.search.proofs.Rounds.{det, short}
 use Rattle.search.proofs.Residual.{Sound}

@@ -3,7 +3,7 @@ ghost use mathlib.Core.Path.{_≡_};
 ghost use mathlib.Core.Bool.{true, false};
 ghost use mathlib.Core.Logic.{_⊎_};
 ghost use Prim.Native.Nat.{ℕ, _%_, _^_, _<_, _≤_};
-ghost use lib.ListN.{length, getD, take};
+ghost use lib.ListN.{length, take};
 ghost use denote.Ref.{name};
 ghost use Rattle.duality.specs.Flows.{Fits};
 ghost use Rattle.search.specs.Labels.{label-at, reached, Sized};

@@ -1,7 +1,6 @@
 -- One side more, and in the end all.
 use mathlib.Core.Path.{sym, _∙_, ap}
 use mathlib.Core.Logic.{⊎-elim}
-use Prim.Native.Nat.{ℕ}
 use native.Mathlib.Omega.{arith}
 use Rattle.search.specs.Sides.{no-side}
 use Rattle.search.proofs.Sweep.{at-set}

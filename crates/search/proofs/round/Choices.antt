@@ -1,9 +1,8 @@
 -- The labels are those of the tries so far.
 use mathlib.Core.Path.{_≡_}
 use mathlib.Core.Bool.{false}
-use lib.ListN.{length}
 use denote.Ref.{name}
-use Rattle.search.specs.Moves.{State, swept}
+use Rattle.search.specs.Moves.{swept}
 use Rattle.search.specs.Sides.{residual}
 use Rattle.search.proofs.round.Given as given
 

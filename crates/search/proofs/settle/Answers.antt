@@ -1,6 +1,6 @@
 -- A round that changed nothing leaves the labels at rest, and any other is followed by one more.
-use mathlib.Core.Path.{_≡_, refl, sym, ap, subst, _∙_}
-use Prim.Native.Nat.{ℕ, _≤_, _*_}
+use mathlib.Core.Path.{_≡_, refl, subst, _∙_}
+use Prim.Native.Nat.{_≤_, _*_}
 use native.Mathlib.Omega.{arith}
 use lib.ListN.{length, take}
 use Rattle.std.proofs.shelf.Lists.{length-take-le}
@@ -8,7 +8,7 @@ use Rattle.search.specs.declared.Label.{Label}
 use Rattle.search.specs.Sides.{residual}
 use Rattle.search.proofs.Sweep.{front-at, lower-refl, lower-trans}
 use Rattle.search.proofs.Going.{Going, going-start}
-use Rattle.search.proofs.Settles.{Rounded, rounded}
+use Rattle.search.proofs.Settles.{rounded}
 use Rattle.search.proofs.settle.Needs as need
 
 pub loop-holds : need.loop-holds

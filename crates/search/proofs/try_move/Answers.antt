@@ -1,9 +1,9 @@
 -- Each way through a try, by the labels that it read.
-use mathlib.Core.Path.{_≡_, refl, ap, _∙_}
+use mathlib.Core.Path.{refl, ap, _∙_}
 use native.Mathlib.Omega.{arith}
 use Rattle.search.specs.declared.Label.{Label}
 use Rattle.search.specs.Labels.{label-at}
-use Rattle.search.proofs.Tries.{held-at, Try, try-no-origin, try-no-gain, try-gain}
+use Rattle.search.proofs.Tries.{held-at, try-no-origin, try-no-gain, try-gain}
 use Rattle.search.proofs.try_move.Needs as need
 
 pub returns-then-from : need.returns-then-from

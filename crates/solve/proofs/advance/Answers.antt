@@ -1,6 +1,5 @@
 -- After a search: no labelled node wants a unit, or one is sent to one that does.
-use mathlib.Core.Path.{_≡_, refl, sym, ap, subst, _∙_}
-use mathlib.Core.Bool.{true, false}
+use mathlib.Core.Path.{refl, sym, subst, _∙_}
 use Prim.Native.Nat.{_≤_}
 use native.Mathlib.Omega.{arith}
 use lib.ListN.{length, take}
@@ -10,8 +9,23 @@ use Rattle.search.specs.Networks.{units}
 use Rattle.search.specs.Sides.{network, Proper}
 use Rattle.search.proofs.Residual.{sound}
 use Rattle.solve.specs.Chains.{Seeded, Labelled, Onward, total}
-use Rattle.solve.proofs.Progress.{stuck, supplied, labelled, underway-of}
+use Rattle.solve.proofs.Progress.{seeded-fresh, stuck, supplied, labelled, underway-of}
 use Rattle.solve.proofs.advance.Needs as need
+
+pub settle-requires : need.settle-requires
+settle-requires g c κs =
+    let n = length (c .args .wants .now) in
+    let places = c .seed .last .labels .places .now in
+    let seeds = subst (λ k. Seeded (g .Price·Price .ops) (c .args .gives .now) (take k places)) (c .pre .inside .1) (c .seed .ensures .seeded) in
+    let some = c .pre .some .1 in
+    record {
+      proper = c .pre .proper;
+      inside = (c .pre .inside .0, omega arith, c .pre .inside .2);
+      labels = (omega (arith, c .seed .ensures .used, c .pre .labels .0), omega (arith, c .seed .ensures .long, c .pre .labels .1));
+      room = c .pre .underway .fits;
+      safe = c .pre .underway .safe;
+      fresh = seeded-fresh (g .Price·Price .ops) (c .args .gives .now) (take n places) seeds;
+    }
 
 pub returns-then-v-wants : need.returns-then-v-wants
 returns-then-v-wants g c =

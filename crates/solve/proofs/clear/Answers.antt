@@ -1,5 +1,4 @@
 -- Each side so far is at zero, and so is what lies past the last.
-use mathlib.Core.Path.{_≡_, refl}
 use mathlib.Core.Logic.{⊎-elim}
 use native.Mathlib.Omega.{arith}
 use lib.ListN.{length}

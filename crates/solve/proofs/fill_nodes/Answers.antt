@@ -1,8 +1,8 @@
 -- One node more is filled.
-use mathlib.Core.Path.{_≡_, sym, subst, _∙_}
-use Prim.Native.Nat.{ℕ, _≤_}
+use mathlib.Core.Path.{sym, subst, _∙_}
+use Prim.Native.Nat.{_≤_}
 use native.Mathlib.Omega.{arith}
-use lib.ListN.{length, take}
+use lib.ListN.{take}
 use Rattle.search.specs.Labels.{label-at, Sized}
 use Rattle.search.specs.Networks.{units}
 use Rattle.search.specs.Sides.{network, Proper}

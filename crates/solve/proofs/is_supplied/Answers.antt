@@ -1,16 +1,16 @@
 -- A root ends the way, and a tight side leads it on.
-use mathlib.Core.Path.{_≡_, refl, sym, ap, subst, _∙_}
-use Prim.Native.Nat.{ℕ, suc, _<_, _≤_}
+use mathlib.Core.Path.{sym, ap, subst, _∙_}
+use Prim.Native.Nat.{suc, _<_}
 use native.Mathlib.Omega.{arith}
 use lib.ListN.{length, take}
 use borrow.Author.Tests.{ltb-true}
 use Rattle.search.specs.declared.Label.{Label}
 use Rattle.search.specs.Labels.{label-at}
 use Rattle.search.specs.Networks.{twin, units}
-use Rattle.search.specs.Sides.{side-at, network}
+use Rattle.search.specs.Sides.{network}
 use Rattle.search.proofs.Twins.{twin-by}
 use Rattle.search.proofs.Residual.{twin-within}
-use Rattle.solve.specs.Chains.{Way, Supplied, root, back}
+use Rattle.solve.specs.Chains.{Way, root, back}
 use Rattle.solve.proofs.Held.{label-read}
 use Rattle.solve.proofs.is_supplied.Needs as need
 

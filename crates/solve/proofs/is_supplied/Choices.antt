@@ -1,5 +1,5 @@
 -- A way back from here would be one from v.
-use Prim.Native.Nat.{ℕ, _<_}
+use Prim.Native.Nat.{_<_}
 use lib.ListN.{length, take}
 use Rattle.search.specs.Labels.{label-at}
 use Rattle.search.specs.Networks.{units}

@@ -1,12 +1,12 @@
 -- A side that passes every test is tight: the order settles the price both ways.
-use mathlib.Core.Path.{_≡_, refl, sym, ap, subst, _∙_}
+use mathlib.Core.Path.{_≡_, sym, ap, subst, _∙_}
 use mathlib.Core.Logic.{inl, inr}
-use Prim.Native.Nat.{ℕ, _<_, _≤_}
+use Prim.Native.Nat.{_<_, _≤_}
 use native.Mathlib.Omega.{arith}
-use lib.ListN.{length, take}
+use lib.ListN.{take}
 use Rattle.search.specs.declared.Label.{Label}
 use Rattle.search.specs.Labels.{label-at}
-use Rattle.search.specs.Networks.{twin, units, cost-of, cost-by, Open}
+use Rattle.search.specs.Networks.{twin, units, cost-of, cost-by}
 use Rattle.search.specs.Sides.{side-at, network}
 use Rattle.search.proofs.Sweep.{front-at}
 use Rattle.search.proofs.Twins.{twin-by}

@@ -1,14 +1,14 @@
 -- The units after one was taken back or added.
-use mathlib.Core.Path.{_≡_, refl, sym, ap, subst, _∙_}
-use mathlib.Core.Logic.{_⊎_, inl, inr, ⊎-elim}
-use Prim.Native.Nat.{ℕ, _<_, _+_, _-_, _≤_}
+use mathlib.Core.Path.{_≡_, sym, ap, subst, _∙_}
+use mathlib.Core.Logic.{_⊎_, ⊎-elim}
+use Prim.Native.Nat.{_<_, _+_, _-_}
 use native.Mathlib.Omega.{arith}
 use lib.ListN.{length, set}
 use lib.Seq.{getD-set-same, getD-set-other}
 use Rattle.search.specs.Networks.{twin, units}
 use Rattle.search.specs.Sides.{side-at}
 use Rattle.search.proofs.Twins.{twin-by, twin-inside}
-use Rattle.solve.specs.Chains.{Push, added, taken}
+use Rattle.solve.specs.Chains.{added, taken}
 use Rattle.solve.proofs.push.Needs as need
 
 pub offset-flow-back : need.offset-flow-back

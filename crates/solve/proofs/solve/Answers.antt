@@ -1,6 +1,6 @@
 -- Nothing is shipped at first; each search ships a unit or shows that there is no flow; at the end the flow is least, or the demands do not add up.
 use mathlib.Core.Path.{_≡_, refl, sym, subst, _∙_}
-use Prim.Native.Nat.{ℕ, _<_, _≤_}
+use Prim.Native.Nat.{ℕ, _<_}
 use native.Mathlib.Omega.{arith}
 use lib.Dec.{ltb}
 use lib.ListN.{length}
