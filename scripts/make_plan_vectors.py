@@ -57,8 +57,8 @@ def traced_faces(legs, around):
             left.discard(e)
             other = e ^ 1
             s, k = place[other]
-            ring = around[s]
-            e = ring[(k + 1) % len(ring)]
+            there = around[s]
+            e = there[(k + 1) % len(there)]
             if e == start:
                 break
         faces.append(walk)

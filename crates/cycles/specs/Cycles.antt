@@ -19,6 +19,6 @@ cycle-name steps n e = lowest (at steps) n e
 abbrev pub named-below : List ℕ → ℕ → ℕ → ℕ → ℕ
 named-below steps n e d = cond (ltb (cycle-name steps n d) e) (cycle-name steps n d) n
 
--- how many of the numbers below n are marked and have the key v
+-- how many of the numbers below n are chosen and have the key v
 abbrev pub tallied : List ℕ → List Bool → ℕ → ℕ → ℕ
-tallied keys marks n v = count (λ k. getD marks k false && eqb (getD keys k 0) v) n
+tallied keys chosen n v = count (λ k. getD chosen k false && eqb (getD keys k 0) v) n

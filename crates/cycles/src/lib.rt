@@ -6,7 +6,7 @@ ghost use Rattle.embedding.specs.Laws.{Permutes};
 ghost use Rattle.embedding.specs.Tables.{Holds};
 ghost use Rattle.cycles.specs.Cycles.{at as at-of, cycle-name, named-below, tallied};
 
-// Marks the numbers below n as not named yet, by n.
+// Gives each number below n the value n: not named yet.
 fn clear_names(n: usize, names: &mut [usize])
     requires { ⌜ n ≤ length (now names) ⌝ }
     ensures { λ _. ⌜ Holds 0 (λ _. n) (now (names .exit)) n ⌝ }
@@ -70,16 +70,16 @@ fn count_one(tallies: &mut [usize], v: usize)
     tallies[v] += 1;
 }
 
-/// Counts the marked numbers below n by their keys, into places that hold 0.
-pub fn tally(keys: &[usize], marks: &[bool], n: usize, tallies: &mut [usize])
+/// Counts the chosen numbers below n by their keys, into places that hold 0.
+pub fn tally(keys: &[usize], chosen: &[bool], n: usize, tallies: &mut [usize])
     requires keyed { ⌜ n ≤ length (now keys) ⌝ }
-    requires marked { ⌜ n ≤ length (now marks) ⌝ }
+    requires chosen { ⌜ n ≤ length (now chosen) ⌝ }
     requires inside { ⌜ ((k : ℕ) → k < n → getD (now keys) k 0 < length (now tallies)) ⌝ }
     requires blank { ⌜ Holds 0 (λ _. 0) (now tallies) (length (now tallies)) ⌝ }
-    ensures { λ _. ⌜ Holds 0 (tallied (now (keys .entry)) (now (marks .entry)) n) (now (tallies .exit)) (length (now (tallies .entry))) ⌝ }
+    ensures { λ _. ⌜ Holds 0 (tallied (now (keys .entry)) (now (chosen .entry)) n) (now (tallies .exit)) (length (now (tallies .entry))) ⌝ }
 {
     for k in 0..n {
-        if marks[k] {
+        if chosen[k] {
             count_one(tallies, keys[k]);
         }
     }

@@ -1,1 +1,1 @@
-mod Marked
+mod Chosen

@@ -10,7 +10,7 @@ ghost use Rattle.embedding.specs.Rotation.{next};
 ghost use Rattle.embedding.specs.Demands.{source, sink, turns-over};
 ghost use Rattle.embedding.specs.Plans.{first-mixed};
 ghost use Rattle.embedding.specs.Tables.{Holds};
-ghost use Rattle.directions.specs.Tallies.{marked-at};
+ghost use Rattle.directions.specs.Tallies.{chosen-at};
 use cycles::tally;
 use rotation::ends::end_station;
 use rotation::ends::fill_stations;
@@ -30,48 +30,48 @@ fn is_incoming(e: usize) -> bool
     e % 2 == 1
 }
 
-// Marks the outgoing ends.
-fn mark_outgoing(n: usize, marks: &mut [bool])
-    requires { ⌜ n ≤ length (now marks) ⌝ }
-    ensures { λ _. ⌜ Holds false outgoing (now (marks .exit)) n ⌝ }
+// Chooses the outgoing ends.
+fn choose_outgoing(n: usize, chosen: &mut [bool])
+    requires { ⌜ n ≤ length (now chosen) ⌝ }
+    ensures { λ _. ⌜ Holds false outgoing (now (chosen .exit)) n ⌝ }
 {
     for e in 0..n {
-        marks[e] = is_outgoing(e);
+        chosen[e] = is_outgoing(e);
     }
 }
 
-// Marks the incoming ends.
-fn mark_incoming(n: usize, marks: &mut [bool])
-    requires { ⌜ n ≤ length (now marks) ⌝ }
-    ensures { λ _. ⌜ Holds false (λ e. not (outgoing e)) (now (marks .exit)) n ⌝ }
+// Chooses the incoming ends.
+fn choose_incoming(n: usize, chosen: &mut [bool])
+    requires { ⌜ n ≤ length (now chosen) ⌝ }
+    ensures { λ _. ⌜ Holds false (λ e. not (outgoing e)) (now (chosen .exit)) n ⌝ }
 {
     for e in 0..n {
-        marks[e] = is_incoming(e);
+        chosen[e] = is_incoming(e);
     }
 }
 
-// Counts the marked ends by their stations, into places that hold 0.
-fn tally_stations(legs: &[Leg], marks: &[bool], tallies: &mut [usize])
+// Counts the chosen ends by their stations, into places that hold 0.
+fn tally_stations(legs: &[Leg], chosen: &[bool], tallies: &mut [usize])
     requires valid { ⌜ valid-legs (now legs) ≡ true ⌝ }
     requires few { ⌜ length (now legs) ≤ 256 ⌝ }
-    requires room { ⌜ ends (now legs) ≤ length (now marks) ⌝ }
-    requires wide { ⌜ length (now tallies) ≡ 10000 ⌝ }
+    requires room { ⌜ ends (now legs) ≤ length (now chosen) ⌝ }
+    requires long { ⌜ length (now tallies) ≡ 10000 ⌝ }
     requires blank { ⌜ Holds 0 (λ _. 0) (now tallies) 10000 ⌝ }
-    ensures { λ _. ⌜ Holds 0 (marked-at (now (legs .entry)) (now (marks .entry))) (now (tallies .exit)) 10000 ⌝ }
+    ensures { λ _. ⌜ Holds 0 (chosen-at (now (legs .entry)) (now (chosen .entry))) (now (tallies .exit)) 10000 ⌝ }
 {
     let mut stations = [0; 512];
     fill_stations(legs, &mut stations);
-    tally(&stations, marks, 2 * legs.len(), tallies);
+    tally(&stations, chosen, 2 * legs.len(), tallies);
 }
 
-// Which ends stand where no end is marked, given the tallies of the stations.
-fn fill_unmarked(legs: &[Leg], marks: &[bool], tallies: &[usize], found: &mut [bool])
+// Which ends stand where no end is chosen, given the tallies of the stations.
+fn fill_unchosen(legs: &[Leg], chosen: &[bool], tallies: &[usize], found: &mut [bool])
     requires valid { ⌜ valid-legs (now legs) ≡ true ⌝ }
     requires few { ⌜ length (now legs) ≤ 256 ⌝ }
-    requires wide { ⌜ length (now tallies) ≡ 10000 ⌝ }
-    requires counted { ⌜ Holds 0 (marked-at (now legs) (now marks)) (now tallies) 10000 ⌝ }
+    requires long { ⌜ length (now tallies) ≡ 10000 ⌝ }
+    requires counted { ⌜ Holds 0 (chosen-at (now legs) (now chosen)) (now tallies) 10000 ⌝ }
     requires space { ⌜ ends (now legs) ≤ length (now found) ⌝ }
-    ensures { λ _. ⌜ Holds false (λ e. eqb (marked-at (now (legs .entry)) (now (marks .entry)) (station (now (legs .entry)) e)) 0) (now (found .exit)) (ends (now (legs .entry))) ⌝ }
+    ensures { λ _. ⌜ Holds false (λ e. eqb (chosen-at (now (legs .entry)) (now (chosen .entry)) (station (now (legs .entry)) e)) 0) (now (found .exit)) (ends (now (legs .entry))) ⌝ }
 {
     for e in 0..2 * legs.len() {
         let s = end_station(legs, e) as usize;
@@ -86,11 +86,11 @@ pub fn fill_sources(legs: &[Leg], sources: &mut [bool])
     requires space { ⌜ ends (now legs) ≤ length (now sources) ⌝ }
     ensures { λ _. ⌜ Holds false (source (now (legs .entry))) (now (sources .exit)) (ends (now (legs .entry))) ⌝ }
 {
-    let mut marks = [false; 512];
+    let mut chosen = [false; 512];
     let mut tallies = [0; 10000];
-    mark_incoming(2 * legs.len(), &mut marks);
-    tally_stations(legs, &marks, &mut tallies);
-    fill_unmarked(legs, &marks, &tallies, sources);
+    choose_incoming(2 * legs.len(), &mut chosen);
+    tally_stations(legs, &chosen, &mut tallies);
+    fill_unchosen(legs, &chosen, &tallies, sources);
 }
 
 /// Which ends stand at a sink: a station all of whose ends are incoming.
@@ -100,14 +100,14 @@ pub fn fill_sinks(legs: &[Leg], sinks: &mut [bool])
     requires space { ⌜ ends (now legs) ≤ length (now sinks) ⌝ }
     ensures { λ _. ⌜ Holds false (sink (now (legs .entry))) (now (sinks .exit)) (ends (now (legs .entry))) ⌝ }
 {
-    let mut marks = [false; 512];
+    let mut chosen = [false; 512];
     let mut tallies = [0; 10000];
-    mark_outgoing(2 * legs.len(), &mut marks);
-    tally_stations(legs, &marks, &mut tallies);
-    fill_unmarked(legs, &marks, &tallies, sinks);
+    choose_outgoing(2 * legs.len(), &mut chosen);
+    tally_stations(legs, &chosen, &mut tallies);
+    fill_unchosen(legs, &chosen, &tallies, sinks);
 }
 
-// Marks the ends after which the direction changes.
+// Chooses the ends after which the direction changes.
 fn fill_turns(legs: &[Leg], nexts: &[usize], turns: &mut [bool])
     requires few { ⌜ length (now legs) ≤ 256 ⌝ }
     requires follow { ⌜ Holds 0 (next (now legs)) (now nexts) (ends (now legs)) ⌝ }
@@ -128,12 +128,12 @@ fn is_mixed(changes: usize) -> bool
 }
 
 // The lowest end at whose station there are more than two changes, or the number of ends.
-fn find_mixed(legs: &[Leg], marks: &[bool], tallies: &[usize]) -> usize
+fn find_mixed(legs: &[Leg], chosen: &[bool], tallies: &[usize]) -> usize
     requires valid { ⌜ valid-legs (now legs) ≡ true ⌝ }
     requires few { ⌜ length (now legs) ≤ 256 ⌝ }
-    requires wide { ⌜ length (now tallies) ≡ 10000 ⌝ }
-    requires turns { ⌜ Holds false (turns-over (now legs)) (now marks) (ends (now legs)) ⌝ }
-    requires counted { ⌜ Holds 0 (marked-at (now legs) (now marks)) (now tallies) 10000 ⌝ }
+    requires long { ⌜ length (now tallies) ≡ 10000 ⌝ }
+    requires turns { ⌜ Holds false (turns-over (now legs)) (now chosen) (ends (now legs)) ⌝ }
+    requires counted { ⌜ Holds 0 (chosen-at (now legs) (now chosen)) (now tallies) 10000 ⌝ }
     ensures { λ r. ⌜ r ≡ first-mixed (now (legs .entry)) ⌝ }
 {
     for e in 0..2 * legs.len() {

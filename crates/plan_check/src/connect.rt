@@ -1,4 +1,4 @@
-// Which legs are joined to leg 0: marks spread over the stations until nothing changes.
+// Which legs are joined to leg 0: visits spread over the stations until nothing changes.
 ghost use mathlib.Core.Path.{_≡_};
 ghost use mathlib.Core.Bool.{true, false, not, Bool·beq};
 ghost use Prim.Native.Nat.{_<_};
@@ -6,70 +6,70 @@ ghost use lib.ListN.{length, set};
 ghost use Rattle.survey.specs.Model.{valid-legs};
 ghost use Rattle.embedding.specs.Plans.{first-apart};
 ghost use Rattle.embedding.specs.Tables.{Holds};
-ghost use Rattle.plan_check.specs.Marks.{marked, Sound, Closed, open-legs};
+ghost use Rattle.plan_check.specs.Visits.{visited-at, Sound, Closed, open-legs};
 use survey::leg::Leg;
 
-// Just one of the two stations of a leg is marked.
-fn is_half_marked(marks: &[bool], leg: &Leg) -> bool
-    requires { ⌜ now leg .from < length (now marks) ⌝ ∗ ⌜ now leg .to < length (now marks) ⌝ }
-    ensures { λ r. ⌜ r ≡ not (Bool·beq (marked (now (marks .entry)) (now (leg .entry) .from)) (marked (now (marks .entry)) (now (leg .entry) .to))) ⌝ }
+// Just one of the two stations of a leg is visited.
+fn is_half_visited(visited: &[bool], leg: &Leg) -> bool
+    requires { ⌜ now leg .from < length (now visited) ⌝ ∗ ⌜ now leg .to < length (now visited) ⌝ }
+    ensures { λ r. ⌜ r ≡ not (Bool·beq (visited-at (now (visited .entry)) (now (leg .entry) .from)) (visited-at (now (visited .entry)) (now (leg .entry) .to))) ⌝ }
 {
-    marks[leg.from as usize] != marks[leg.to as usize]
+    visited[leg.from as usize] != visited[leg.to as usize]
 }
 
-// Marks both stations of a leg.
-fn mark_both(marks: &mut [bool], leg: &Leg)
-    requires { ⌜ now leg .from < length (now marks) ⌝ ∗ ⌜ now leg .to < length (now marks) ⌝ }
-    ensures { λ _. ⌜ now (marks .exit) ≡ set (set (now (marks .entry)) (now (leg .entry) .from) true) (now (leg .entry) .to) true ⌝ }
+// Visits both stations of a leg.
+fn visit_both(visited: &mut [bool], leg: &Leg)
+    requires { ⌜ now leg .from < length (now visited) ⌝ ∗ ⌜ now leg .to < length (now visited) ⌝ }
+    ensures { λ _. ⌜ now (visited .exit) ≡ set (set (now (visited .entry)) (now (leg .entry) .from) true) (now (leg .entry) .to) true ⌝ }
 {
-    marks[leg.from as usize] = true;
-    marks[leg.to as usize] = true;
+    visited[leg.from as usize] = true;
+    visited[leg.to as usize] = true;
 }
 
-// Marks both stations of each leg that has one of them marked; false where there is none.
-fn spread(legs: &[Leg], marks: &mut [bool]) -> bool
+// Visits both stations of each leg that has one of them visited; false where there is none.
+fn spread(legs: &[Leg], visited: &mut [bool]) -> bool
     requires valid { ⌜ valid-legs (now legs) ≡ true ⌝ }
-    requires wide { ⌜ length (now marks) ≡ 10000 ⌝ }
-    requires sound { ⌜ Sound (now legs) (now marks) ⌝ }
-    ensures sound { λ r. ⌜ Sound (now (legs .entry)) (now (marks .exit)) ⌝ }
-    ensures more { λ r. ⌜ (r ≡ true → open-legs (now (legs .entry)) (now (marks .exit)) < open-legs (now (legs .entry)) (now (marks .entry))) ⌝ }
-    ensures done { λ r. ⌜ (r ≡ false → Closed (now (legs .entry)) (now (marks .exit))) ⌝ }
+    requires long { ⌜ length (now visited) ≡ 10000 ⌝ }
+    requires sound { ⌜ Sound (now legs) (now visited) ⌝ }
+    ensures sound { λ r. ⌜ Sound (now (legs .entry)) (now (visited .exit)) ⌝ }
+    ensures more { λ r. ⌜ (r ≡ true → open-legs (now (legs .entry)) (now (visited .exit)) < open-legs (now (legs .entry)) (now (visited .entry))) ⌝ }
+    ensures done { λ r. ⌜ (r ≡ false → Closed (now (legs .entry)) (now (visited .exit))) ⌝ }
 {
     let mut changed = false;
     for i in 0..legs.len() {
-        if is_half_marked(marks, &legs[i]) {
-            mark_both(marks, &legs[i]);
+        if is_half_visited(visited, &legs[i]) {
+            visit_both(visited, &legs[i]);
             changed = true;
         }
     }
     changed
 }
 
-// Marks the stations of all legs that are joined to leg 0.
-fn mark_joined(legs: &[Leg], marks: &mut [bool])
+// Visits the stations of all legs that are joined to leg 0.
+fn visit_joined(legs: &[Leg], visited: &mut [bool])
     requires valid { ⌜ valid-legs (now legs) ≡ true ⌝ }
     requires some { ⌜ 0 < length (now legs) ⌝ }
-    requires wide { ⌜ length (now marks) ≡ 10000 ⌝ }
-    requires blank { ⌜ Holds false (λ _. false) (now marks) 10000 ⌝ }
-    ensures sound { λ _. ⌜ Sound (now (legs .entry)) (now (marks .exit)) ⌝ }
-    ensures closed { λ _. ⌜ Closed (now (legs .entry)) (now (marks .exit)) ⌝ }
+    requires long { ⌜ length (now visited) ≡ 10000 ⌝ }
+    requires blank { ⌜ Holds false (λ _. false) (now visited) 10000 ⌝ }
+    ensures sound { λ _. ⌜ Sound (now (legs .entry)) (now (visited .exit)) ⌝ }
+    ensures closed { λ _. ⌜ Closed (now (legs .entry)) (now (visited .exit)) ⌝ }
 {
-    mark_both(marks, &legs[0]);
-    while spread(legs, marks) {}
+    visit_both(visited, &legs[0]);
+    while spread(legs, visited) {}
 }
 
-// The lowest leg whose stations are not marked, or the count.
-fn find_unmarked(legs: &[Leg], marks: &[bool]) -> usize
+// The lowest leg whose stations are not visited, or the count.
+fn find_unvisited(legs: &[Leg], visited: &[bool]) -> usize
     requires valid { ⌜ valid-legs (now legs) ≡ true ⌝ }
     requires some { ⌜ 0 < length (now legs) ⌝ }
-    requires wide { ⌜ length (now marks) ≡ 10000 ⌝ }
-    requires sound { ⌜ Sound (now legs) (now marks) ⌝ }
-    requires closed { ⌜ Closed (now legs) (now marks) ⌝ }
+    requires long { ⌜ length (now visited) ≡ 10000 ⌝ }
+    requires sound { ⌜ Sound (now legs) (now visited) ⌝ }
+    requires closed { ⌜ Closed (now legs) (now visited) ⌝ }
     ensures { λ r. ⌜ r ≡ first-apart (now (legs .entry)) ⌝ }
 {
     for i in 0..legs.len() {
         let from = legs[i].from as usize;
-        if !marks[from] {
+        if !visited[from] {
             return i;
         }
     }
@@ -82,7 +82,7 @@ pub fn find_apart(legs: &[Leg]) -> usize
     requires some { ⌜ 0 < length (now legs) ⌝ }
     ensures { λ r. ⌜ r ≡ first-apart (now (legs .entry)) ⌝ }
 {
-    let mut marks = [false; 10000];
-    mark_joined(legs, &mut marks);
-    find_unmarked(legs, &marks)
+    let mut visited = [false; 10000];
+    visit_joined(legs, &mut visited);
+    find_unvisited(legs, &visited)
 }

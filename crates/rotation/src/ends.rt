@@ -49,7 +49,11 @@ pub fn bearing_gap(from: u32, to: u32) -> u32
     requires { ⌜ from < 3600 ⌝ ∗ ⌜ to < 3600 ⌝ }
     ensures { λ r. ⌜ r ≡ gap from to ⌝ }
 {
-    (to + 3599 - from) % 3600 + 1
+    if from < to {
+        to - from
+    } else {
+        to + 3600 - from
+    }
 }
 
 /// The station of each end, as a table.

@@ -20,7 +20,7 @@ use survey::leg::Leg;
 fn fill_chains(legs: &[Leg], lasts: &mut [usize], chains: &mut [usize])
     requires valid { ⌜ valid-legs (now legs) ≡ true ⌝ }
     requires few { ⌜ length (now legs) ≤ 256 ⌝ }
-    requires wide { ⌜ 10000 ≤ length (now lasts) ⌝ }
+    requires long { ⌜ 10000 ≤ length (now lasts) ⌝ }
     requires room { ⌜ ends (now legs) ≤ length (now chains) ⌝ }
     requires blank { ⌜ Holds 0 (λ _. 0) (now lasts) 10000 ⌝ }
     ensures lasts { λ _. ⌜ Holds 0 (last-end (now (legs .entry)) (ends (now (legs .entry)))) (now (lasts .exit)) 10000 ⌝ }
@@ -66,7 +66,7 @@ fn fill_by_chains(legs: &[Leg], lasts: &[usize], chains: &[usize], nexts: &mut [
     requires linked { ⌜ Holds 0 (end-before (now legs)) (now chains) (ends (now legs)) ⌝ }
     requires room { ⌜ ends (now legs) ≤ length (now chains) ⌝ }
     requires lasts { ⌜ Holds 0 (last-end (now legs) (ends (now legs))) (now lasts) 10000 ⌝ }
-    requires wide { ⌜ 10000 ≤ length (now lasts) ⌝ }
+    requires long { ⌜ 10000 ≤ length (now lasts) ⌝ }
     requires space { ⌜ ends (now legs) ≤ length (now nexts) ⌝ }
     ensures { λ _. ⌜ Holds 0 (next (now (legs .entry))) (now (nexts .exit)) (ends (now (legs .entry))) ⌝ }
 {

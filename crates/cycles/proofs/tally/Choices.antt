@@ -5,4 +5,4 @@ use Rattle.cycles.specs.Cycles.{tallied}
 use Rattle.cycles.proofs.tally.Given as given
 
 abbrev pub Inv-loop-k : given.InvT-loop-k
-Inv-loop-k l = Holds 0 (tallied (l .keys) (l .marks) (l .k)) (l .tallies) (length (l .entry .tallies))
+Inv-loop-k l = Holds 0 (tallied (l .keys) (l .chosen) (l .k)) (l .tallies) (length (l .entry .tallies))

@@ -2,11 +2,11 @@
 use mathlib.Core.Path.{refl, _∙_}
 use native.Mathlib.Omega.{arith}
 use Rattle.std.proofs.shelf.Lists.{getD-replicate}
-use Rattle.directions.proofs.Marked.{none-incoming}
+use Rattle.directions.proofs.Chosen.{none-incoming}
 use Rattle.directions.proofs.fill_sources.Needs as need
 
 pub tally-stations-requires : need.tally-stations-requires
-tally-stations-requires c κs = record { valid = c .pre .valid; few = c .pre .few; room = omega arith; wide = refl; blank = λ e l. getD-replicate 10000 e 0 0 l }
+tally-stations-requires c κs = record { valid = c .pre .valid; few = c .pre .few; room = omega arith; long = refl; blank = λ e l. getD-replicate 10000 e 0 0 l }
 
 pub returns : need.returns
-returns c e l = c .fill-unmarked .ensures e l ∙ none-incoming (c .args .legs .now) _ (c .mark-incoming .ensures) e
+returns c e l = c .fill-unchosen .ensures e l ∙ none-incoming (c .args .legs .now) _ (c .choose-incoming .ensures) e

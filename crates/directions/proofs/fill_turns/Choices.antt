@@ -1,4 +1,4 @@
--- The ends before the index are marked where the direction changes after them.
+-- The ends before the index are chosen where the direction changes after them.
 use mathlib.Core.Bool.{false}
 use Rattle.embedding.specs.Demands.{turns-over}
 use Rattle.embedding.specs.Tables.{Holds}

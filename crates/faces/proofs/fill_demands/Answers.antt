@@ -20,15 +20,15 @@ use Rattle.cycles.proofs.Tables.{count-same}
 use Rattle.faces.proofs.fill_demands.Needs as need
 
 -- the tally of the tables is that of the angles
-switches-tallied : (legs : List Leg) (keys : List ℕ) (marks : List Bool) → Holds 0 (angle-face legs) keys (ends legs) → Holds false (source-switch legs) marks (ends legs) → (f : ℕ) → tallied keys marks (ends legs) f ≡ source-switches legs f
-switches-tallied legs keys marks h m f = count-same (λ k. getD marks k false && eqb (getD keys k 0) f) (λ e. source-switch legs e && eqb (angle-face legs e) f) (ends legs) (λ k l t. m k l t && eqb (h k l t) f)
+switches-tallied : (legs : List Leg) (keys : List ℕ) (chosen : List Bool) → Holds 0 (angle-face legs) keys (ends legs) → Holds false (source-switch legs) chosen (ends legs) → (f : ℕ) → tallied keys chosen (ends legs) f ≡ source-switches legs f
+switches-tallied legs keys chosen h m f = count-same (λ k. getD chosen k false && eqb (getD keys k 0) f) (λ e. source-switch legs e && eqb (angle-face legs e) f) (ends legs) (λ k l t. m k l t && eqb (h k l t) f)
 
 pub tally-requires : need.tally-requires
 tally-requires c κs =
     let legs = c .args .legs .now in
     record {
       keyed = omega arith;
-      marked = omega arith;
+      chosen = omega arith;
       inside = λ k l.
           let a = c .fill-angle-faces .ensures k l in
           let b = face-lt legs (distinct legs (c .pre .valid)) (next legs k) (next-follows legs k l .within) in

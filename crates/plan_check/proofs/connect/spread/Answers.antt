@@ -1,4 +1,4 @@
--- One leg more: it has one station marked and gets both, or nothing changes.
+-- One leg more: it has one station visited and gets both, or nothing changes.
 use mathlib.Core.Path.{_≡_, refl, sym, ap, _∙_}
 use mathlib.Core.Logic.{⊎-elim}
 use mathlib.Core.Bool.{Bool, true, false, not, Bool·beq}
@@ -10,16 +10,16 @@ use borrow.Author.Count.{below-more}
 use Rattle.std.proofs.shelf.Tests.{both-ways, cases-bool}
 use Rattle.survey.specs.declared.leg.Leg.{Leg}
 use Rattle.embedding.proofs.Distinct.{leg-stations}
-use Rattle.plan_check.specs.Marks.{marked, from-at, to-at, Sound, open-legs}
+use Rattle.plan_check.specs.Visits.{visited-at, from-at, to-at, Sound, open-legs}
 use Rattle.plan_check.proofs.Spreading.{sound-more, open-falls}
 use Rattle.plan_check.proofs.connect.spread.Needs as need
-use Rattle.plan_check.proofs.connect.spread.Needs.{then-is-half-marked, else-is-half-marked}
+use Rattle.plan_check.proofs.connect.spread.Needs.{then-is-half-visited, else-is-half-visited}
 
-pub is-half-marked-requires : need.is-half-marked-requires
-is-half-marked-requires c κs = let h = leg-stations (c .args .legs .now) (c .loop-i .i) (c .pre .valid) (omega arith) in let a = h .0 in let b = h .1 in (omega arith, omega arith)
+pub is-half-visited-requires : need.is-half-visited-requires
+is-half-visited-requires c κs = let h = leg-stations (c .args .legs .now) (c .loop-i .i) (c .pre .valid) (omega arith) in let a = h .0 in let b = h .1 in (omega arith, omega arith)
 
-pub mark-both-requires : need.mark-both-requires
-mark-both-requires c κs = let h = leg-stations (c .args .legs .now) (c .loop-i .i) (c .pre .valid) (omega arith) in let a = h .0 in let b = h .1 in (omega arith, omega arith)
+pub visit-both-requires : need.visit-both-requires
+visit-both-requires c κs = let h = leg-stations (c .args .legs .now) (c .loop-i .i) (c .pre .valid) (omega arith) in let a = h .0 in let b = h .1 in (omega arith, omega arith)
 
 differ : (x y : Bool) → not (Bool·beq x y) ≡ true → x ≡ y → ⊥
 differ true true h e = both-ways true (sym h) refl
@@ -35,17 +35,17 @@ agree false false h = refl
 
 -- what lasts from leg to leg
 Kept : List Leg → List Bool → (i : ℕ) → Bool → List Bool → Type 0
-Kept legs was i changed marks =
-    Sound legs marks
-    × (changed ≡ true → open-legs legs marks < open-legs legs was)
-    × (changed ≡ false → marks ≡ was)
-    × (changed ≡ false → (j : ℕ) → j < i → marked marks (from-at legs j) ≡ marked marks (to-at legs j))
+Kept legs was i changed visited =
+    Sound legs visited
+    × (changed ≡ true → open-legs legs visited < open-legs legs was)
+    × (changed ≡ false → visited ≡ was)
+    × (changed ≡ false → (j : ℕ) → j < i → visited-at visited (from-at legs j) ≡ visited-at visited (to-at legs j))
 
-takes : (legs : List Leg) (was marks : List Bool) (i : ℕ) (changed : Bool) → Kept legs was i changed marks → i < length legs → from-at legs i < length marks → to-at legs i < length marks → (marked marks (from-at legs i) ≡ marked marks (to-at legs i) → ⊥) → Kept legs was (i + 1) true (set (set marks (from-at legs i) true) (to-at legs i) true)
+takes : (legs : List Leg) (was visited : List Bool) (i : ℕ) (changed : Bool) → Kept legs was i changed visited → i < length legs → from-at legs i < length visited → to-at legs i < length visited → (visited-at visited (from-at legs i) ≡ visited-at visited (to-at legs i) → ⊥) → Kept legs was (i + 1) true (set (set visited (from-at legs i) true) (to-at legs i) true)
 unfolding Kept
-takes legs was marks i changed k l la lb half =
-    let f = open-falls legs marks i l la lb (k .0) half in (
-      sound-more legs marks i l la lb (k .0) half,
+takes legs was visited i changed k l la lb half =
+    let f = open-falls legs visited i l la lb (k .0) half in (
+      sound-more legs visited i l la lb (k .0) half,
       (λ t. ⊎-elim
           (λ (c : changed ≡ true). let g = k .1 c in omega arith)
           (λ (c : changed ≡ false). let g = ap (open-legs legs) (k .2 c) in omega arith)
@@ -54,12 +54,12 @@ takes legs was marks i changed k l la lb half =
       λ t. absurd (both-ways true t refl),
     )
 
-keeps : (legs : List Leg) (was marks : List Bool) (i : ℕ) (changed : Bool) → Kept legs was i changed marks → marked marks (from-at legs i) ≡ marked marks (to-at legs i) → Kept legs was (i + 1) changed marks
+keeps : (legs : List Leg) (was visited : List Bool) (i : ℕ) (changed : Bool) → Kept legs was i changed visited → visited-at visited (from-at legs i) ≡ visited-at visited (to-at legs i) → Kept legs was (i + 1) changed visited
 unfolding Kept
-keeps legs was marks i changed k e = (k .0, k .1, k .2, λ c. below-more _ _ (k .3 c) e)
+keeps legs was visited i changed k e = (k .0, k .1, k .2, λ c. below-more _ _ (k .3 c) e)
 
-as-is : (legs : List Leg) (was marks marks′ : List Bool) (i : ℕ) (changed changed′ : Bool) → marks′ ≡ marks → changed′ ≡ changed → Kept legs was i changed marks → Kept legs was i changed′ marks′
-as-is legs was marks marks′ i changed changed′ p q k = rw (p, q) k
+as-is : (legs : List Leg) (was visited visited′ : List Bool) (i : ℕ) (changed changed′ : Bool) → visited′ ≡ visited → changed′ ≡ changed → Kept legs was i changed visited → Kept legs was i changed′ visited′
+as-is legs was visited visited′ i changed changed′ p q k = rw (p, q) k
 
 pub loop-i-again : need.loop-i-again
 unfolding Kept
@@ -67,9 +67,9 @@ loop-i-again c =
     let legs = c .args .legs .now in
     let i = c .loop-i .i in
     let h = leg-stations legs i (c .pre .valid) (omega arith) in
-    let la : from-at legs i < length (c .loop-i .marks) = let a = h .0 in omega arith in
-    let lb : to-at legs i < length (c .loop-i .marks) = let a = h .1 in omega arith in
-    elim (c .if-is-half-marked .came) [
-      | then-is-half-marked w ↦ as-is legs (c .args .marks .now) _ _ (i + 1) _ _ (w .marks-is ∙ w .mark-both .ensures) (w .changed-is) (takes legs (c .args .marks .now) (c .loop-i .marks) i (c .loop-i .changed) (c .loop-i .inv) (omega arith) la lb (differ _ _ (sym (w .if-is-half-marked .ensures tt))))
-      | else-is-half-marked w ↦ as-is legs (c .args .marks .now) _ _ (i + 1) _ _ (w .marks-is) (w .changed-is) (keeps legs (c .args .marks .now) (c .loop-i .marks) i (c .loop-i .changed) (c .loop-i .inv) (agree _ _ (sym (w .if-is-half-marked .ensures tt))))
+    let la : from-at legs i < length (c .loop-i .visited) = let a = h .0 in omega arith in
+    let lb : to-at legs i < length (c .loop-i .visited) = let a = h .1 in omega arith in
+    elim (c .if-is-half-visited .came) [
+      | then-is-half-visited w ↦ as-is legs (c .args .visited .now) _ _ (i + 1) _ _ (w .visited-is ∙ w .visit-both .ensures) (w .changed-is) (takes legs (c .args .visited .now) (c .loop-i .visited) i (c .loop-i .changed) (c .loop-i .inv) (omega arith) la lb (differ _ _ (sym (w .if-is-half-visited .ensures tt))))
+      | else-is-half-visited w ↦ as-is legs (c .args .visited .now) _ _ (i + 1) _ _ (w .visited-is) (w .changed-is) (keeps legs (c .args .visited .now) (c .loop-i .visited) i (c .loop-i .changed) (c .loop-i .inv) (agree _ _ (sym (w .if-is-half-visited .ensures tt))))
     ]

@@ -1,4 +1,4 @@
--- Marked ends at a station, against the definitions of sources, sinks and bimodal stations.
+-- Chosen ends at a station, against the definitions of sources, sinks and bimodal stations.
 use mathlib.Core.Path.{_≡_, refl, sym, ap, _∙_}
 use mathlib.Core.Logic.{⊎-elim}
 use mathlib.Core.Bool.{Bool, true, false, cond, not, _&&_, _||_}
@@ -14,7 +14,7 @@ use Rattle.survey.specs.Ends.{ends, outgoing, station, same-station}
 use Rattle.embedding.specs.Demands.{source, sink, turns-over, changes}
 use Rattle.embedding.specs.Tables.{Holds}
 use Rattle.cycles.proofs.Tables.{count-same}
-use Rattle.directions.specs.Tallies.{marked-at}
+use Rattle.directions.specs.Tallies.{chosen-at}
 
 -- all pass where none that does not is counted
 none-counted : (p q : ℕ → Bool) (k : ℕ) → ((i : ℕ) → i < k → p i ≡ not (q i)) → eqb (count p k) 0 ≡ every q k
@@ -44,18 +44,18 @@ swap-sink true false = refl
 swap-sink false true = refl
 swap-sink false false = refl
 
-module _ (legs : List Leg) (marks : List Bool) where
-  pub none-incoming : Holds false (λ e. not (outgoing e)) marks (ends legs) → (e : ℕ) → eqb (marked-at legs marks (station legs e)) 0 ≡ source legs e
-  none-incoming h e = none-counted (λ k. getD marks k false && same-station legs e k) (λ k. not (same-station legs e k) || outgoing k) (ends legs)
+module _ (legs : List Leg) (chosen : List Bool) where
+  pub none-incoming : Holds false (λ e. not (outgoing e)) chosen (ends legs) → (e : ℕ) → eqb (chosen-at legs chosen (station legs e)) 0 ≡ source legs e
+  none-incoming h e = none-counted (λ k. getD chosen k false && same-station legs e k) (λ k. not (same-station legs e k) || outgoing k) (ends legs)
       (λ i l. ap (λ (b : Bool). b && same-station legs e i) (h i l) ∙ swap-source (outgoing i) (same-station legs e i))
 
-  pub none-outgoing : Holds false outgoing marks (ends legs) → (e : ℕ) → eqb (marked-at legs marks (station legs e)) 0 ≡ sink legs e
-  none-outgoing h e = none-counted (λ k. getD marks k false && same-station legs e k) (λ k. not (same-station legs e k) || not (outgoing k)) (ends legs)
+  pub none-outgoing : Holds false outgoing chosen (ends legs) → (e : ℕ) → eqb (chosen-at legs chosen (station legs e)) 0 ≡ sink legs e
+  none-outgoing h e = none-counted (λ k. getD chosen k false && same-station legs e k) (λ k. not (same-station legs e k) || not (outgoing k)) (ends legs)
       (λ i l. ap (λ (b : Bool). b && same-station legs e i) (h i l) ∙ swap-sink (outgoing i) (same-station legs e i))
 
-  pub changes-marked : Holds false (turns-over legs) marks (ends legs) → (e : ℕ) → marked-at legs marks (station legs e) ≡ changes legs e
-  changes-marked h e = count-same (λ k. getD marks k false && same-station legs e k) (λ k. turns-over legs k && same-station legs e k) (ends legs) (λ i l t. h i l t && same-station legs e i)
+  pub changes-chosen : Holds false (turns-over legs) chosen (ends legs) → (e : ℕ) → chosen-at legs chosen (station legs e) ≡ changes legs e
+  changes-chosen h e = count-same (λ k. getD chosen k false && same-station legs e k) (λ k. turns-over legs k && same-station legs e k) (ends legs) (λ i l t. h i l t && same-station legs e i)
 
--- a table of keys by station counts what the marks do
-pub tallied-at : (legs : List Leg) (keys : List ℕ) (marks : List Bool) → Holds 0 (station legs) keys (ends legs) → (s : ℕ) → count (λ k. getD marks k false && eqb (getD keys k 0) s) (ends legs) ≡ marked-at legs marks s
-tallied-at legs keys marks h s = count-same (λ k. getD marks k false && eqb (getD keys k 0) s) (λ k. getD marks k false && eqb (station legs k) s) (ends legs) (λ i l t. getD marks i false && eqb (h i l t) s)
+-- a table of keys by station counts what the chosen do
+pub tallied-at : (legs : List Leg) (keys : List ℕ) (chosen : List Bool) → Holds 0 (station legs) keys (ends legs) → (s : ℕ) → count (λ k. getD chosen k false && eqb (getD keys k 0) s) (ends legs) ≡ chosen-at legs chosen s
+tallied-at legs keys chosen h s = count-same (λ k. getD chosen k false && eqb (getD keys k 0) s) (λ k. getD chosen k false && eqb (station legs k) s) (ends legs) (λ i l t. getD chosen i false && eqb (h i l t) s)

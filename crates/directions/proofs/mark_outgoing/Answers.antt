@@ -1,9 +1,0 @@
--- One end more is marked by direction.
-use mathlib.Core.Bool.{false}
-use native.Mathlib.Omega.{arith}
-use Rattle.survey.specs.Ends.{outgoing}
-use Rattle.cycles.proofs.Tables.{holds-more}
-use Rattle.directions.proofs.mark_outgoing.Needs as need
-
-pub loop-e-again : need.loop-e-again
-loop-e-again c = holds-more false outgoing (c .loop-e .marks) (c .loop-e .e) (c .is-outgoing .result) (omega arith) (c .loop-e .inv) (c .is-outgoing .ensures)
