@@ -12,7 +12,7 @@ use Rattle.std.proofs.shelf.Lists.{take-more}
 use Rattle.std.proofs.shelf.Tests.{cond-true, cond-false, lt-ltb, le-ltb}
 use Rattle.refusal.specs.Answers.{refuses, tells}
 use Rattle.report.specs.declared.Piece.{Piece}
-use Rattle.report.specs.Output.{put, account-text, refusal-text, write-answer, written}
+use Rattle.report.specs.Output.{put, line, summary-text, refusal-text, write-answer, written}
 use Rattle.report.specs.Pieces.{piece-text, pieces-text}
 use Rattle.report.proofs.Puts.{put-put}
 
@@ -58,29 +58,42 @@ put-three out a b c o₁ o₂ o₃ n₁ n₂ h e₁ m₁ e₂ m₂ e₃ =
     let f₂ : o₂ ≡ put out 0 (a ++ b) = e₂ ∙ ap (λ (v : List ℕ). put v n₁ b) e₁ ∙ ap (λ (n : ℕ). put (put out 0 a) n b) k₁ ∙ put-put out a b 0 (omega arith) in
     e₃ ∙ ap (λ (v : List ℕ). put v n₂ c) f₂ ∙ ap (λ (n : ℕ). put (put out 0 (a ++ b)) n c) k₂ ∙ put-put out (a ++ b) c 0 (omega arith) ∙ ap (put out 0) (append-assoc a b c)
 
--- the pieces of the refusal line and of the account, with a line feed, as `whole-text` puts them together
-abbrev two-pieces : (a m b n : List ℕ) → List ℕ
-two-pieces a m b n = ((a ++ m) ++ ((b ++ n) ++ [])) ++ (10 ∷ [])
+-- words and digits, each after a line feed
+abbrev after-feeds : List (List ℕ × List ℕ) → List ℕ
+after-feeds [] = []
+after-feeds (x ∷ xs) = (10 ∷ (x .0 ++ x .1)) ++ after-feeds xs
 
-abbrev three-pieces : (a l b m c n : List ℕ) → List ℕ
-three-pieces a l b m c n = ((a ++ l) ++ ((b ++ m) ++ ((c ++ n) ++ []))) ++ (10 ∷ [])
+-- the same, each before one
+abbrev as-lines : List (List ℕ × List ℕ) → List ℕ
+as-lines [] = []
+as-lines (x ∷ xs) = (x .0 ++ (x .1 ++ (10 ∷ []))) ++ as-lines xs
 
-one-line : (a m b n : List ℕ) → two-pieces a m b n ≡ a ++ (m ++ (b ++ (n ++ (10 ∷ []))))
+end-line : (a m rest : List ℕ) → (a ++ m) ++ (10 ∷ rest) ≡ (a ++ (m ++ (10 ∷ []))) ++ rest
+end-line a m rest = append-assoc a m (10 ∷ rest) ∙ sym (append-assoc a (m ++ (10 ∷ [])) rest ∙ ap (λ (v : List ℕ). a ++ v) (append-assoc m (10 ∷ []) rest))
+
+feeds-moved : (xs : List (List ℕ × List ℕ)) → after-feeds xs ++ (10 ∷ []) ≡ 10 ∷ as-lines xs
+feeds-moved [] = refl
+feeds-moved (x ∷ xs) =
+    append-assoc (10 ∷ (x .0 ++ x .1)) (after-feeds xs) (10 ∷ [])
+    ∙ ap (λ (v : List ℕ). (10 ∷ (x .0 ++ x .1)) ++ v) (feeds-moved xs)
+    ∙ ap (λ (v : List ℕ). 10 ∷ v) (end-line (x .0) (x .1) (as-lines xs))
+
+-- pieces that start with a line feed, but for the first, and a line feed at the end are lines
+lines : (a m : List ℕ) (xs : List (List ℕ × List ℕ)) → ((a ++ m) ++ after-feeds xs) ++ (10 ∷ []) ≡ (a ++ (m ++ (10 ∷ []))) ++ as-lines xs
+lines a m xs = append-assoc (a ++ m) (after-feeds xs) (10 ∷ []) ∙ ap (λ (v : List ℕ). (a ++ m) ++ v) (feeds-moved xs) ∙ end-line a m (as-lines xs)
+
+-- the pieces of the summary, as `whole-text` puts them together
+pub summary-whole : (stations legs faces bends : ℕ)
+    → ((codes "stations " ++ decimal stations) ++ after-feeds ((codes "legs ", decimal legs) ∷ (codes "faces ", decimal faces) ∷ (codes "bends ", decimal bends) ∷ [])) ++ (10 ∷ []) ≡ summary-text stations legs faces bends
+summary-whole stations legs faces bends =
+    lines (codes "stations ") (decimal stations) ((codes "legs ", decimal legs) ∷ (codes "faces ", decimal faces) ∷ (codes "bends ", decimal bends) ∷ [])
+    ∙ ap (λ (v : List ℕ). line (codes "stations ") stations ++ (line (codes "legs ") legs ++ (line (codes "faces ") faces ++ v))) (append-nil (line (codes "bends ") bends))
+
+one-line : (a m b n : List ℕ) → ((a ++ m) ++ ((b ++ n) ++ [])) ++ (10 ∷ []) ≡ a ++ (m ++ (b ++ (n ++ (10 ∷ []))))
 one-line a m b n = simp (append-assoc, append-nil)
 
-three-lines : (a l b m c n : List ℕ) → three-pieces a l (10 ∷ b) m (10 ∷ c) n ≡ (a ++ (l ++ (10 ∷ []))) ++ ((b ++ (m ++ (10 ∷ []))) ++ (c ++ (n ++ (10 ∷ []))))
-three-lines a l b m c n =
-    let rest : List ℕ = c ++ (n ++ (10 ∷ [])) in
-    ap (λ (v : List ℕ). ((a ++ l) ++ (((10 ∷ b) ++ m) ++ v)) ++ (10 ∷ [])) (append-nil ((10 ∷ c) ++ n))
-    ∙ append-assoc (a ++ l) (((10 ∷ b) ++ m) ++ ((10 ∷ c) ++ n)) (10 ∷ [])
-    ∙ append-assoc a l ((((10 ∷ b) ++ m) ++ ((10 ∷ c) ++ n)) ++ (10 ∷ []))
-    ∙ ap (λ (v : List ℕ). a ++ (l ++ (10 ∷ v))) (append-assoc (b ++ m) (10 ∷ (c ++ n)) (10 ∷ []) ∙ append-assoc b m (10 ∷ ((c ++ n) ++ (10 ∷ []))) ∙ ap (λ (v : List ℕ). b ++ (m ++ (10 ∷ v))) (append-assoc c n (10 ∷ [])))
-    ∙ sym (append-assoc a (l ++ (10 ∷ [])) ((b ++ (m ++ (10 ∷ []))) ++ rest) ∙ ap (λ (v : List ℕ). a ++ v) (append-assoc l (10 ∷ []) ((b ++ (m ++ (10 ∷ []))) ++ rest)) ∙ ap (λ (v : List ℕ). a ++ (l ++ (10 ∷ v))) (append-assoc b (m ++ (10 ∷ [])) rest ∙ ap (λ (v : List ℕ). b ++ v) (append-assoc m (10 ∷ []) rest)))
-
-pub account-whole : (stations legs faces : ℕ) → three-pieces (codes "stations ") (decimal stations) (10 ∷ codes "legs ") (decimal legs) (10 ∷ codes "faces ") (decimal faces) ≡ account-text stations legs faces
-account-whole stations legs faces = three-lines (codes "stations ") (decimal stations) (codes "legs ") (decimal legs) (codes "faces ") (decimal faces)
-
-pub refusal-whole : (n k : ℕ) → two-pieces (codes "refused ") (decimal n) (codes " line ") (decimal k) ≡ refusal-text n k
+-- the pieces of the refusal line
+pub refusal-whole : (n k : ℕ) → ((codes "refused " ++ decimal n) ++ ((codes " line " ++ decimal k) ++ [])) ++ (10 ∷ []) ≡ refusal-text n k
 refusal-whole n k = one-line (codes "refused ") (decimal n) (codes " line ") (decimal k)
 
 pub short-answer : (room need : ℕ) (text : List ℕ) → need ≡ length text → room < need → refuses 17 need ≡ write-answer room text

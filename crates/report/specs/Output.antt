@@ -14,9 +14,9 @@ use Rattle.refusal.specs.Answers.{Answer, tells, refuses, told-by}
 abbrev pub line : List ℕ → ℕ → List ℕ
 line words n = words ++ (decimal n ++ (10 ∷ []))
 
--- the account of a plan
-abbrev pub account-text : (stations legs faces : ℕ) → List ℕ
-account-text stations legs faces = line (codes "stations ") stations ++ (line (codes "legs ") legs ++ line (codes "faces ") faces)
+-- the summary of a drawing
+abbrev pub summary-text : (stations legs faces bends : ℕ) → List ℕ
+summary-text stations legs faces bends = line (codes "stations ") stations ++ (line (codes "legs ") legs ++ (line (codes "faces ") faces ++ line (codes "bends ") bends))
 
 -- a refusal with its number and line
 abbrev pub refusal-text : (number line : ℕ) → List ℕ

@@ -1,9 +1,9 @@
-// The account of a plan and the refusal line, written into a supplied buffer.
+// The summary of a drawing and the refusal line, written into a supplied buffer.
 ghost use mathlib.Core.Path.{_≡_};
 ghost use Prim.Native.Nat.{_+_, _^_, _<_, _≤_};
 ghost use lib.ListN.{length};
 ghost use Rattle.std.specs.Written.{decimal};
-ghost use Rattle.report.specs.Output.{put, account-text, refusal-text, write-answer, written, told-bytes};
+ghost use Rattle.report.specs.Output.{put, summary-text, refusal-text, write-answer, written, told-bytes};
 ghost use Rattle.report.specs.Pieces.{pieces-text, whole-text};
 use refusal::Refusal;
 
@@ -94,10 +94,16 @@ fn write(pieces: &[Piece], out: &mut [u8]) -> Result<usize, Refusal>
     Ok(put_words(out, at, b"\n"))
 }
 
-/// Writes the account of a plan at the buffer's start, and leaves the rest of it. Returns the bytes written.
-pub fn account(stations: usize, legs: usize, faces: usize, out: &mut [u8]) -> Result<usize, Refusal>
-    ensures answer { λ r. ⌜ told-bytes r ≡ write-answer (length (now (out .entry))) (account-text stations legs faces) ⌝ }
-    ensures out { λ r. ⌜ now (out .exit) ≡ written (now (out .entry)) (account-text stations legs faces) ⌝ }
+// Writes the summary's four lines.
+fn write_summary(
+    stations: usize,
+    legs: usize,
+    faces: usize,
+    bends: usize,
+    out: &mut [u8],
+) -> Result<usize, Refusal>
+    ensures answer { λ r. ⌜ told-bytes r ≡ write-answer (length (now (out .entry))) (summary-text stations legs faces bends) ⌝ }
+    ensures out { λ r. ⌜ now (out .exit) ≡ written (now (out .entry)) (summary-text stations legs faces bends) ⌝ }
 {
     let pieces = [
         Piece {
@@ -111,6 +117,10 @@ pub fn account(stations: usize, legs: usize, faces: usize, out: &mut [u8]) -> Re
         Piece {
             words: b"\nfaces ",
             number: faces,
+        },
+        Piece {
+            words: b"\nbends ",
+            number: bends,
         },
     ];
     write(&pieces, out)
