@@ -1,13 +1,20 @@
-// Reads a survey text from standard input, plans the cave, and prints an account of the plan or a refusal.
+// Reads a survey text from standard input, draws the cave, and prints the summary of the drawing or a refusal.
 mod explain;
 
+use diagram::run;
+use draw::drawings::Drawing;
 use explain::explain;
 use explain::has_value;
-use plan::planning::plan;
 use plan::plans::Plan;
+use price::Plain;
+use price::PlainRates;
+use price::PlainTariff;
 use refusal::Refusal;
-use report::account;
 use report::refusal_line;
+use report::summary;
+use search::Label;
+use search::NO_PRICE;
+use slice_vec::SliceVec;
 use std::io;
 use std::io::Read;
 use std::io::Write;
@@ -15,6 +22,8 @@ use svx::fault::Fault;
 use svx::read;
 use table::SurveyTable;
 use table::TableSurvey;
+use transcript::step::Call;
+use transcript::step::Step;
 
 // The whole of standard input.
 fn read_input(rt: &LibcRuntime) -> io::Result<Vec<u8>> {
@@ -58,35 +67,44 @@ fn refuse_text(rt: &LibcRuntime, fault: &Fault) -> io::Result<()> {
     Err(failure())
 }
 
-// A cave that cannot be planned.
+// A cave that cannot be planned or drawn.
 fn refuse_cave(rt: &LibcRuntime, cause: &Refusal) -> io::Result<()> {
     print_refusal(rt, cause, 0)?;
     complain(rt, cause)?;
     Err(failure())
 }
 
-fn print_account(rt: &LibcRuntime, cave: &Plan) -> io::Result<()> {
+fn print_summary(rt: &LibcRuntime, drawing: &Drawing) -> io::Result<()> {
     let mut out = [0u8; 128];
-    match account(cave.stations(), cave.count(), cave.faces(), &mut out) {
+    match summary(drawing, &mut out) {
         Ok(n) => rt.stdout().write_all(&out[0..n]),
         Err(_) => Err(failure()),
     }
 }
 
-// Plans left of leg 0, and prints the account.
-fn plan_cave(rt: &LibcRuntime, table: &SurveyTable) -> io::Result<()> {
-    let mut cave = Plan::new();
-    match plan(table, &mut cave, 0, 0) {
-        Ok(()) => print_account(rt, &cave),
-        Err(cause) => refuse_cave(rt, &cause),
+// Plans left of leg 0, and draws with plain prices: the refusal of either, if any.
+fn draw_cave(table: &mut SurveyTable, drawing: &mut Drawing) -> Result<(), Refusal> {
+    let mut steps = [Step::new(Call::Plan { leg: 0, side: 0 })];
+    let price = Plain { value: 0 };
+    let mut places = [Label { price, end: NO_PRICE }; 260];
+    let mut labels = SliceVec::new(&mut places);
+    let drawn = run(table, &mut steps, Plan::new(), &PlainTariff, &mut labels, drawing);
+    match (steps[0].answer, drawn) {
+        (Err(cause), _) => Err(cause),
+        (Ok(_), Err(cause)) => Err(cause),
+        (Ok(_), Ok(_)) => Ok(()),
     }
 }
 
 fn main(rt: LibcRuntime) -> io::Result<()> {
     let text = read_input(&rt)?;
     let mut table = SurveyTable::new();
+    let mut drawing = Drawing::new();
     match read(text.as_slice(), &mut table) {
-        Ok(()) => plan_cave(&rt, &table),
         Err(fault) => refuse_text(&rt, &fault),
+        Ok(()) => match draw_cave(&mut table, &mut drawing) {
+            Err(cause) => refuse_cave(&rt, &cause),
+            Ok(()) => print_summary(&rt, &drawing),
+        },
     }
 }

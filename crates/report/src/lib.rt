@@ -4,7 +4,9 @@ ghost use Prim.Native.Nat.{_+_, _^_, _<_, _≤_};
 ghost use lib.ListN.{length};
 ghost use Rattle.std.specs.Written.{decimal};
 ghost use Rattle.report.specs.Output.{put, summary-text, refusal-text, write-answer, written, told-bytes};
+ghost use Rattle.report.specs.Summaries.{drawing-text};
 ghost use Rattle.report.specs.Pieces.{pieces-text, whole-text};
+use draw::drawings::Drawing;
 use refusal::Refusal;
 
 // Words, and the number that follows them.
@@ -124,6 +126,16 @@ fn write_summary(
         },
     ];
     write(&pieces, out)
+}
+
+/// Writes the summary of a drawing at the buffer's start, and leaves the rest of it. Returns the bytes written.
+pub fn summary(drawing: &Drawing, out: &mut [u8]) -> Result<usize, Refusal>
+    ensures answer { λ r. ⌜ told-bytes r ≡ write-answer (length (now (out .entry))) (drawing-text (now (drawing .entry))) ⌝ }
+    ensures out { λ r. ⌜ now (out .exit) ≡ written (now (out .entry)) (drawing-text (now (drawing .entry))) ⌝ }
+{
+    let stations = drawing.stations();
+    let faces = drawing.faces();
+    write_summary(stations, drawing.count(), faces, drawing.bends(), out)
 }
 
 /// Writes a refusal's number and line at the buffer's start, and leaves the rest of it. Returns the bytes written.
