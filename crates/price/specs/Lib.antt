@@ -1,0 +1,3 @@
+pub mod Laws
+pub mod Amounts
+pub mod Rates

@@ -1,0 +1,5 @@
+pub mod Labels
+pub mod Moves
+pub mod Paths
+pub mod Networks
+pub mod Sides
