@@ -1,0 +1,4 @@
+pub mod Tables
+pub mod Seeking
+mod Naming
+mod Tallying
