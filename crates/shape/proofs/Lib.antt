@@ -1,1 +1,3 @@
 pub mod Ranks
+pub mod Splits
+pub mod Places
