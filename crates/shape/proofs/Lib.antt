@@ -1,3 +1,5 @@
 pub mod Ranks
 pub mod Splits
 pub mod Places
+pub mod Listed
+pub mod Properly
