@@ -1,8 +1,8 @@
 -- Bends in pairs: the rule of the faces in bends and in units.
-use mathlib.Core.Path.{_≡_, refl, sym, ap, _∙_}
+use mathlib.Core.Path.{_≡_, refl, ap}
 use mathlib.Core.Bool.{Bool, true, false, cond}
 use mathlib.Core.List.{List}
-use Prim.Native.Nat.{ℕ, zero, suc, _+_, _*_, _/_, _%_, _≤_, _<_}
+use Prim.Native.Nat.{ℕ, zero, suc, _+_, _*_, _/_, _%_, _<_}
 use native.Mathlib.Nat.{add-zero}
 use native.Mathlib.Omega.{arith}
 use lib.Dec.{eqb}
@@ -16,7 +16,7 @@ use Rattle.duality.proofs.Exchange.{sum-ext}
 use Rattle.duality.proofs.Theorems.{numbers}
 use Rattle.shape.specs.Shapes.{Shape, large-in, along}
 use Rattle.shape.specs.Nodes.{above, beneath}
-use Rattle.shape.proofs.Flowing.{ins, outs}
+use Rattle.shape.proofs.AtNodes.{ins, outs}
 
 -- equations term by term, summed
 sum-equal : (k : ℕ) (a b c d x y : ℕ → ℕ) → ((i : ℕ) → i < k → a i + b i + 2 * x i ≡ c i + d i + 2 * y i) →
@@ -25,7 +25,7 @@ sum-equal zero a b c d x y h = refl
 sum-equal (suc k) a b c d x y h = let s = sum-equal k a b c d x y (λ i l. h i (omega arith)) in let t = h k (omega arith) in omega arith
 
 -- on each leg, the bends that turn towards a face less those that turn away are twice the units that come less those that leave
-pub Halved : List Leg → Shape → (ℕ → ℕ) → Type 0
+abbrev pub Halved : List Leg → Shape → (ℕ → ℕ) → Type 0
 Halved legs z f = (i : ℕ) → i < length legs → (g : ℕ) →
     cond (eqb (face legs (2 * i)) g) (z .right i) 0 + cond (eqb (face legs (2 * i + 1)) g) (z .left i) 0 + 2 * (cond (eqb (face legs (2 * i + 1)) g) (f (2 * i)) 0 + cond (eqb (face legs (2 * i)) g) (f (2 * i + 1)) 0)
     ≡ cond (eqb (face legs (2 * i)) g) (z .left i) 0 + cond (eqb (face legs (2 * i + 1)) g) (z .right i) 0 + 2 * (cond (eqb (face legs (2 * i)) g) (f (2 * i)) 0 + cond (eqb (face legs (2 * i + 1)) g) (f (2 * i + 1)) 0)
@@ -56,7 +56,6 @@ on-left legs g x = sum-ext numbers (length legs) _ _ (λ i l. ap (λ (k : ℕ). 
 
 module _ (legs : List Leg) (z : Shape) (f : ℕ → ℕ) (halved : Halved legs z f) where
   all-legs : (g : ℕ) → along legs 0 g (z .right) + along legs 1 g (z .left) + 2 * outs legs f g ≡ along legs 0 g (z .left) + along legs 1 g (z .right) + 2 * ins legs f g
-  unfolding Halved
   all-legs g = let a = on-left legs g (z .right) in let b = on-left legs g (z .left) in let s = sum-equal (length legs) _ _ _ _ _ _ (λ i l. halved i l g) in omega arith
 
   -- the rule of a face in bends, from the rule in units

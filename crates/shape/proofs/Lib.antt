@@ -2,7 +2,10 @@ pub mod Ranks
 pub mod Splits
 pub mod Places
 pub mod Listed
-pub mod Properly
-pub mod Flowing
+pub mod ProperSides
+pub mod AtNodes
 pub mod Halves
 pub mod Prices
+pub mod Wanted
+pub mod ToFlow
+pub mod ToShape

@@ -1,14 +1,14 @@
 -- The sides of a plan's network by what they are: of a leg, through an angle, or back.
 use mathlib.Core.Path.{_≡_, refl, sym, ap, subst, _∙_}
-use mathlib.Core.Logic.{_⊎_, inl, inr, ⊎-elim}
+use mathlib.Core.Logic.{⊎-elim}
 use mathlib.Core.Bool.{Bool, true, false, cond}
 use mathlib.Core.List.{List}
 use Prim.Native.Nat.{ℕ, _+_, _-_, _*_, _/_, _%_, _≤_, _<_}
 use native.Mathlib.Omega.{arith}
 use lib.ListN.{length}
-use Rattle.std.proofs.shelf.Tests.{cases-lt, cases-eq, cond-true, cond-false, lt-ltb, le-ltb, eq-eqb, ne-eqb}
+use Rattle.std.proofs.shelf.Tests.{cases-lt, cases-eq, cond-true, lt-ltb, le-ltb, eq-eqb, ne-eqb}
 use Rattle.survey.specs.declared.leg.Leg.{Leg}
-use Rattle.survey.specs.Ends.{ends, outgoing}
+use Rattle.survey.specs.Ends.{ends}
 use Rattle.embedding.specs.Rotation.{twin}
 use Rattle.embedding.proofs.Faces.{twin-lt}
 use Rattle.search.specs.declared.Side.{Side}
@@ -21,15 +21,15 @@ use Rattle.shape.specs.Statements.{Holds-network}
 use Rattle.shape.proofs.Splits.{sum-append, sum-pairs}
 
 -- the second and the third of three cases
-cond-second : {A : Type 0} (b c : Bool) (x y z : A) → b ≡ false → c ≡ true → cond b x (cond c y z) ≡ y
+pub cond-second : {A : Type 0} (b c : Bool) (x y z : A) → b ≡ false → c ≡ true → cond b x (cond c y z) ≡ y
 cond-second b c x y z p q = rw (p, q)
 
-cond-third : {A : Type 0} (b c : Bool) (x y z : A) → b ≡ false → c ≡ false → cond b x (cond c y z) ≡ z
+pub cond-third : {A : Type 0} (b c : Bool) (x y z : A) → b ≡ false → c ≡ false → cond b x (cond c y z) ≡ z
 cond-third b c x y z p q = rw (p, q)
 
 module _ (legs : List Leg) where
   -- a side is one of a leg, one through an angle, or one back
-  pub by-side : (Q : ℕ → Type 0) → ((e : ℕ) → e < ends legs → Q e) → ((e : ℕ) → e < ends legs → Q (ends legs + 2 * e)) → ((e : ℕ) → e < ends legs → Q (ends legs + (2 * e + 1))) →
+  by-side : (Q : ℕ → Type 0) → ((e : ℕ) → e < ends legs → Q e) → ((e : ℕ) → e < ends legs → Q (ends legs + 2 * e)) → ((e : ℕ) → e < ends legs → Q (ends legs + (2 * e + 1))) →
       (s : ℕ) → s < side-count legs → Q s
   by-side Q leg angle back s l =
       let e : ℕ = (s - ends legs) / 2 in
@@ -59,10 +59,10 @@ module _ (legs : List Leg) where
   unfolding paired
   paired-leg e = refl
 
-  pub paired-angle : (e : ℕ) → paired (ends legs + 2 * e) ≡ ends legs + (2 * e + 1)
+  paired-angle : (e : ℕ) → paired (ends legs + 2 * e) ≡ ends legs + (2 * e + 1)
   paired-angle e = let h = twin-even (ends legs + 2 * e) (omega arith) in omega arith
 
-  pub paired-back : (e : ℕ) → paired (ends legs + (2 * e + 1)) ≡ ends legs + 2 * e
+  paired-back : (e : ℕ) → paired (ends legs + (2 * e + 1)) ≡ ends legs + 2 * e
   paired-back e = let h = twin-odd (ends legs + (2 * e + 1)) (λ q. omega arith) in omega arith
 
 module _ (legs : List Leg) (sides : List Side) (holds : Holds-network legs sides) where
@@ -81,7 +81,7 @@ module _ (legs : List Leg) (sides : List Side) (holds : Holds-network legs sides
   pub side-angle-twin : (e : ℕ) → e < ends legs → side-at sides (paired (ends legs + 2 * e)) ≡ back-side legs e
   side-angle-twin e l = ap (side-at sides) (paired-angle legs e) ∙ side-back e l
 
-  pub side-back-twin : (e : ℕ) → e < ends legs → side-at sides (paired (ends legs + (2 * e + 1))) ≡ angle-side legs e
+  side-back-twin : (e : ℕ) → e < ends legs → side-at sides (paired (ends legs + (2 * e + 1))) ≡ angle-side legs e
   side-back-twin e l = ap (side-at sides) (paired-back legs e) ∙ side-angle e l
 
   -- what holds of each side, by what it is, beside its twin

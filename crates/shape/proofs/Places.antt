@@ -1,7 +1,7 @@
 -- The nodes of faces and of sources and sinks: each has its own, and every node is one of these.
-use mathlib.Core.Path.{_≡_, refl, sym, ap, subst, _∙_}
-use mathlib.Core.Logic.{_⊎_, inl, inr, ⊎-elim}
-use mathlib.Core.Bool.{Bool, true, false, cond, not, _&&_, _||_}
+use mathlib.Core.Path.{_≡_, refl, sym, ap, _∙_}
+use mathlib.Core.Logic.{⊎-elim}
+use mathlib.Core.Bool.{true, not, _||_}
 use mathlib.Core.List.{List}
 use Prim.Native.Nat.{ℕ, _+_, _-_, _≤_, _<_}
 use native.Mathlib.Omega.{arith}
@@ -14,7 +14,7 @@ use Rattle.survey.specs.Counting.{count, every}
 use Rattle.survey.specs.Ends.{ends, outgoing, station, same-station, first-at-station, stations}
 use Rattle.survey.specs.Model.{valid-legs}
 use Rattle.embedding.specs.Walks.{seek}
-use Rattle.embedding.specs.Rotation.{twin, face-step, face, faces}
+use Rattle.embedding.specs.Rotation.{face-step, face, faces}
 use Rattle.embedding.specs.Demands.{planar}
 use Rattle.embedding.proofs.Distinct.{distinct}
 use Rattle.embedding.proofs.Faces.{face-lt, walks}
@@ -43,10 +43,10 @@ few-nodes legs h =
     omega arith
 
 module _ (legs : List Leg) (valid : valid-legs legs ≡ true) where
-  pub face-inside : (e : ℕ) → e < ends legs → face legs e < ends legs
+  face-inside : (e : ℕ) → e < ends legs → face legs e < ends legs
   face-inside e l = face-lt legs (distinct legs valid) e l
 
-  pub face-face : (e : ℕ) → e < ends legs → face legs (face legs e) ≡ face legs e
+  face-face : (e : ℕ) → e < ends legs → face legs (face legs e) ≡ face legs e
   unfolding face
   face-face e l = low-low (ends legs) (face-step legs) (walks legs (distinct legs valid)) e l
 

@@ -1,5 +1,5 @@
 -- What units on the sides of a plan's network cost, in bends.
-use mathlib.Core.Path.{_≡_, refl, sym, ap, subst, _∙_}
+use mathlib.Core.Path.{_≡_, refl, ap, subst, _∙_}
 use mathlib.Core.List.{List}
 use Prim.Native.Nat.{ℕ, zero, suc, _+_, _-_, _*_, _/_, _≤_, _<_}
 use native.Mathlib.Omega.{arith}
@@ -67,11 +67,11 @@ module _ {P : Type 0} {ops : Ops P} (L : Laws ops) (rate : ℕ → ℕ → P) (l
       let laws = prices L in
       sum-sides legs sides holds laws (λ s. cost s (f s))
       ∙ ap (ops .plus (sum (ops .zero) (ops .plus) (ends legs) (λ s. cost s (f s))))
-          (sum-zero laws (ends legs) (λ e. ops .plus (cost (ends legs + 2 * e) (f (ends legs + 2 * e))) (cost (ends legs + (2 * e + 1)) (f (ends legs + (2 * e + 1)))))
-          (λ e l. ap (λ (x : P). ops .plus x (cost (ends legs + (2 * e + 1)) (f (ends legs + (2 * e + 1))))) (angle-cost e _ l) ∙ ap (ops .plus (ops .zero)) (back-cost e _ l) ∙ laws .unit (ops .zero)))
+      (sum-zero laws (ends legs) (λ e. ops .plus (cost (ends legs + 2 * e) (f (ends legs + 2 * e))) (cost (ends legs + (2 * e + 1)) (f (ends legs + (2 * e + 1)))))
+      (λ e l. ap (λ (x : P). ops .plus x (cost (ends legs + (2 * e + 1)) (f (ends legs + (2 * e + 1))))) (angle-cost e _ l) ∙ ap (ops .plus (ops .zero)) (back-cost e _ l) ∙ laws .unit (ops .zero)))
       ∙ laws .unit (sum (ops .zero) (ops .plus) (ends legs) (λ s. cost s (f s)))
       ∙ sum-pairs laws (length legs) (λ s. cost s (f s))
       ∙ sum-ext laws (length legs) (λ i. ops .plus (cost (2 * i) (f (2 * i))) (cost (2 * i + 1) (f (2 * i + 1)))) _ (λ i l.
-          ap (λ (x : P). ops .plus x (cost (2 * i + 1) (f (2 * i + 1)))) (leg-cost (2 * i) i (f (2 * i)) (omega arith) (omega arith))
-          ∙ ap (ops .plus (times (ops .zero) (ops .plus) (f (2 * i)) (ops .plus (bend i) (bend i)))) (leg-cost (2 * i + 1) i (f (2 * i + 1)) (omega arith) (omega arith))
-          ∙ pairs laws (bend i) (f (2 * i)) (f (2 * i + 1)))
+      ap (λ (x : P). ops .plus x (cost (2 * i + 1) (f (2 * i + 1)))) (leg-cost (2 * i) i (f (2 * i)) (omega arith) (omega arith))
+      ∙ ap (ops .plus (times (ops .zero) (ops .plus) (f (2 * i)) (ops .plus (bend i) (bend i)))) (leg-cost (2 * i + 1) i (f (2 * i + 1)) (omega arith) (omega arith))
+      ∙ pairs laws (bend i) (f (2 * i)) (f (2 * i + 1)))

@@ -1,5 +1,5 @@
 -- Sums cut in two, sums over pairs, and counts as sums.
-use mathlib.Core.Path.{_≡_, refl, sym, ap, subst, _∙_}
+use mathlib.Core.Path.{_≡_, refl, sym, ap, _∙_}
 use mathlib.Core.Bool.{Bool, true, false, cond, _&&_}
 use Prim.Native.Nat.{ℕ, zero, suc, _+_, _*_, _≤_, _<_}
 use native.Mathlib.Decide.{ℕ-discrete}
@@ -7,7 +7,6 @@ use native.Mathlib.Nat.{add-zero, add-suc}
 use native.Mathlib.Omega.{arith}
 use Rattle.survey.specs.Counting.{count}
 use Rattle.duality.specs.Sums.{Ordered, sum}
-use Rattle.duality.proofs.Theorems.{numbers}
 
 module _ {P : Type 0} {o : P} {add : P → P → P} {le : P → P → Type 0} (laws : Ordered o add le) where
   -- the first a terms, then b more

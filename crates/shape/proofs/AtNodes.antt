@@ -1,7 +1,7 @@
 -- What comes to a node and what leaves it, where units and a shape say the same.
-use mathlib.Core.Path.{_≡_, refl, sym, ap, subst, _∙_}
-use mathlib.Core.Logic.{_⊎_, inl, inr, ⊎-elim}
-use mathlib.Core.Bool.{Bool, true, false, cond, _&&_}
+use mathlib.Core.Path.{_≡_, refl, sym, ap, _∙_}
+use mathlib.Core.Logic.{⊎-elim}
+use mathlib.Core.Bool.{Bool, true, false, cond}
 use mathlib.Core.List.{List}
 use Prim.Native.Nat.{ℕ, _+_, _-_, _*_, _%_, _≤_, _<_}
 use native.Mathlib.Omega.{arith}
@@ -10,7 +10,7 @@ use lib.ListN.{length}
 use Rattle.std.proofs.shelf.Tests.{cases-bool, cond-true, cond-false, eq-eqb, ne-eqb}
 use Rattle.survey.specs.declared.leg.Leg.{Leg}
 use Rattle.survey.specs.Counting.{count}
-use Rattle.survey.specs.Ends.{ends, station, same-station}
+use Rattle.survey.specs.Ends.{ends, same-station}
 use Rattle.survey.specs.Model.{valid-legs}
 use Rattle.embedding.specs.Rotation.{twin, face, faces, angle-face}
 use Rattle.embedding.proofs.Faces.{stands, twin-lt}
@@ -22,11 +22,11 @@ use Rattle.duality.proofs.Exchange.{sum-ext, sum-zero}
 use Rattle.duality.proofs.Theorems.{numbers}
 use Rattle.shape.specs.Shapes.{Shape, switch, large-at, large-in}
 use Rattle.shape.specs.Nodes.{names-face, names-switch, face-node, switch-node}
-use Rattle.shape.specs.Units.{leg-side, angle-side, back-side}
+use Rattle.shape.specs.Units.{back-side}
 use Rattle.shape.specs.Statements.{Holds-network}
 use Rattle.shape.proofs.Splits.{sum-pairs, count-sum}
 use Rattle.shape.proofs.Places.{eqb-same, face-node-lt, at-face, face-rank-lt, switch-node-one, lowest-same}
-use Rattle.shape.proofs.Listed.{side-leg, side-leg-twin, side-angle, side-angle-twin, side-back, side-back-twin, sum-sides}
+use Rattle.shape.proofs.Listed.{side-leg, side-leg-twin, side-angle, side-angle-twin, sum-sides}
 
 -- the units through angles are the large angles of the shape, none of which stands where there is no source or sink
 pub record Angled (legs : List Leg) (z : Shape) (f : ℕ → ℕ) : Type 0 where
@@ -72,7 +72,7 @@ module _ (legs : List Leg) (valid : valid-legs legs ≡ true) (sides : List Side
       let a = sum-sides legs sides holds numbers (λ s. cond (eqb (node s) v) (f s) 0) in
       let b = sum-ext numbers (ends legs) (λ s. cond (eqb (node s) v) (f s) 0) x h in
       let c = sum-ext numbers (ends legs) (λ e. cond (eqb (node (ends legs + 2 * e)) v) (f (ends legs + 2 * e)) 0 + cond (eqb (node (ends legs + (2 * e + 1))) v) (f (ends legs + (2 * e + 1))) 0) y
-          (λ e m. let p = k e m in let q = pick-zero (eqb (node (ends legs + (2 * e + 1))) v) _ (angled .back e m) in omega arith) in
+      (λ e m. let p = k e m in let q = pick-zero (eqb (node (ends legs + (2 * e + 1))) v) _ (angled .back e m) in omega arith) in
       omega arith
 
   -- whether a side whose node is known leads to v
@@ -101,14 +101,14 @@ module _ (legs : List Leg) (valid : valid-legs legs ≡ true) (sides : List Side
   leaves-face g l h =
       let v : ℕ = count (names-face legs) g in
       let a = at-node (λ s. side-at sides (paired s) .node) v (λ e. cond (eqb (face legs (twin e)) g) (f e) 0) (λ e. 0)
-          (λ e m. same-pick _ _ _ _ (to-node (paired e) v _ (side-leg-twin legs sides holds e m) (at-face legs valid (twin e) g (twin-lt (length legs) e m) h)) refl)
-          (λ e m. same-pick _ _ _ _ (to-node (paired (ends legs + 2 * e)) v _ (side-angle-twin legs sides holds e m) refl) refl ∙ not-face e v m (face-rank-lt legs valid g l h)) in
+      (λ e m. same-pick _ _ _ _ (to-node (paired e) v _ (side-leg-twin legs sides holds e m) (at-face legs valid (twin e) g (twin-lt (length legs) e m) h)) refl)
+      (λ e m. same-pick _ _ _ _ (to-node (paired (ends legs + 2 * e)) v _ (side-angle-twin legs sides holds e m) refl) refl ∙ not-face e v m (face-rank-lt legs valid g l h)) in
       let b = sum-pairs numbers (length legs) (λ e. cond (eqb (face legs (twin e)) g) (f e) 0) in
       let c = sum-ext numbers (length legs) (λ i. cond (eqb (face legs (twin (2 * i))) g) (f (2 * i)) 0 + cond (eqb (face legs (twin (2 * i + 1))) g) (f (2 * i + 1)) 0) (λ i. cond (eqb (face legs (2 * i + 1)) g) (f (2 * i)) 0 + cond (eqb (face legs (2 * i)) g) (f (2 * i + 1)) 0)
-          (λ i m.
-          let x = ap (λ (e : ℕ). cond (eqb (face legs e) g) (f (2 * i)) 0) (twin-first i) in
-          let y = ap (λ (e : ℕ). cond (eqb (face legs e) g) (f (2 * i + 1)) 0) (twin-second i) in
-          omega arith) in
+      (λ i m.
+      let x = ap (λ (e : ℕ). cond (eqb (face legs e) g) (f (2 * i)) 0) (twin-first i) in
+      let y = ap (λ (e : ℕ). cond (eqb (face legs e) g) (f (2 * i + 1)) 0) (twin-second i) in
+      omega arith) in
       let o = sum-zero numbers (ends legs) (λ e. 0) (λ e m. refl) in
       omega arith
 
@@ -117,8 +117,8 @@ module _ (legs : List Leg) (valid : valid-legs legs ≡ true) (sides : List Side
   comes-switch v l =
       let off : (e : ℕ) → e < ends legs → eqb (face-node legs e) v ≡ false = λ e m. let n = face-node-lt legs valid e m in ne-eqb _ _ (λ (q : face-node legs e ≡ v). omega arith) in
       let a = at-node (λ s. side-at sides s .node) v (λ e. 0) (λ e. 0)
-          (λ e m. same-pick _ _ _ _ (to-node e v false (side-leg legs sides holds e m) (off e m)) refl)
-          (λ e m. same-pick _ _ _ _ (to-node (ends legs + 2 * e) v false (side-angle legs sides holds e m) (off (twin e) (twin-lt (length legs) e m))) refl) in
+      (λ e m. same-pick _ _ _ _ (to-node e v false (side-leg legs sides holds e m) (off e m)) refl)
+      (λ e m. same-pick _ _ _ _ (to-node (ends legs + 2 * e) v false (side-angle legs sides holds e m) (off (twin e) (twin-lt (length legs) e m))) refl) in
       let o = sum-zero numbers (ends legs) (λ e. 0) (λ e m. refl) in
       omega arith
 
@@ -141,8 +141,8 @@ module _ (legs : List Leg) (valid : valid-legs legs ≡ true) (sides : List Side
       let v : ℕ = switch-node legs e in
       let off : (e : ℕ) → e < ends legs → eqb (face-node legs e) v ≡ false = λ e m. let n = face-node-lt legs valid e m in ne-eqb _ _ (λ (q : face-node legs e ≡ v). omega arith) in
       let a = at-node (λ s. side-at sides (paired s) .node) v (λ k. 0) (λ k. cond (same-station legs e k) (cond (z .large k) 1 0) 0)
-          (λ k m. same-pick _ _ _ _ (to-node (paired k) v false (side-leg-twin legs sides holds k m) (off (twin k) (twin-lt (length legs) k m))) refl)
-          (λ k m. same-pick _ _ _ _ (to-node (paired (ends legs + 2 * k)) v _ (side-angle-twin legs sides holds k m) refl) refl ∙ from-switch e k l t m) in
+      (λ k m. same-pick _ _ _ _ (to-node (paired k) v false (side-leg-twin legs sides holds k m) (off (twin k) (twin-lt (length legs) k m))) refl)
+      (λ k m. same-pick _ _ _ _ (to-node (paired (ends legs + 2 * k)) v _ (side-angle-twin legs sides holds k m) refl) refl ∙ from-switch e k l t m) in
       let o = sum-zero numbers (ends legs) (λ e. 0) (λ e m. refl) in
       let c = count-sum (same-station legs e) (z .large) (ends legs) in
       omega arith

@@ -1,13 +1,13 @@
 -- The sides of a plan's network are proper: in pairs, few, within bounds, and told by node and end.
-use mathlib.Core.Path.{_≡_, refl, sym, ap, subst, _∙_}
-use mathlib.Core.Logic.{_⊎_, inl, inr, ⊎-elim}
+use mathlib.Core.Path.{_≡_, refl, sym, ap, _∙_}
+use mathlib.Core.Logic.{_⊎_, ⊎-elim}
 use mathlib.Core.Bool.{Bool, true, false, cond, not, _&&_}
 use mathlib.Core.List.{List}
 use Prim.Native.Nat.{ℕ, _+_, _-_, _*_, _/_, _%_, _≤_, _<_}
 use native.Mathlib.Omega.{arith}
 use lib.Dec.{eqb, ltb}
-use lib.ListN.{length, getD}
-use Rattle.std.proofs.shelf.Tests.{cases-bool, cases-eq, cond-true, cond-false, cond-both, lt-ltb, le-ltb, ltb-false, eq-eqb, ne-eqb, and-from, and-left, and-right, eqb-true, eqb-false, not-from-true, not-from-false}
+use lib.ListN.{length}
+use Rattle.std.proofs.shelf.Tests.{cases-eq, cond-true, cond-false, cond-both, lt-ltb, le-ltb, ltb-false, eq-eqb, ne-eqb, and-from, and-left, and-right, not-from-true, not-from-false}
 use Rattle.survey.specs.declared.leg.Leg.{Leg}
 use Rattle.survey.specs.Ends.{ends, no-leg}
 use Rattle.survey.specs.Model.{valid-leg, valid-legs}
@@ -16,7 +16,7 @@ use Rattle.survey.proofs.Valid.{valid-at}
 use Rattle.embedding.specs.Rotation.{twin, face, faces}
 use Rattle.embedding.proofs.Faces.{twin-lt, twin-twin}
 use Rattle.search.specs.declared.Side.{Side}
-use Rattle.search.specs.Sides.{side-at, Keyed, Proper}
+use Rattle.search.specs.Sides.{Proper}
 use Rattle.shape.specs.Shapes.{switch, leg-at}
 use Rattle.shape.specs.Nodes.{face-node, switch-node, nodes}
 use Rattle.shape.specs.Units.{crossing-room, leg-side, angle-side, back-side}
@@ -42,7 +42,7 @@ second-of : (b c : Bool) (x y z : ℕ) → b ≡ true → c ≡ false → cond b
 second-of b c x y z p q = rw (p, q)
 
 -- a leg with one face on both sides has no room
-pub no-crossing : (legs : List Leg) (e : ℕ) → face legs e ≡ face legs (twin e) → crossing-room legs e ≡ 0
+no-crossing : (legs : List Leg) (e : ℕ) → face legs e ≡ face legs (twin e) → crossing-room legs e ≡ 0
 no-crossing legs e h = cond-true _ _ _ (eq-eqb _ _ h)
 
 module _ (legs : List Leg) (valid : valid-legs legs ≡ true) where
@@ -52,9 +52,9 @@ module _ (legs : List Leg) (valid : valid-legs legs ≡ true) where
   key-leg : (e : ℕ) → e < ends legs → Key (leg-side legs e) (leg-side legs (twin e)) e
   key-leg e l h =
       let ne : face legs e ≡ face legs (twin e) → ⊥ = λ q.
-          let a = no-crossing legs e q in
-          let b = no-crossing legs (twin e) (sym q ∙ ap (face legs) (sym (twin-twin e))) in
-          ⊎-elim (λ (r : 0 < crossing-room legs e). omega arith) (λ (r : 0 < crossing-room legs (twin e)). omega arith) h in
+      let a = no-crossing legs e q in
+      let b = no-crossing legs (twin e) (sym q ∙ ap (face legs) (sym (twin-twin e))) in
+      ⊎-elim (λ (r : 0 < crossing-room legs e). omega arith) (λ (r : 0 < crossing-room legs (twin e)). omega arith) h in
       first-of _ _ _ _ _ (lt-ltb _ _ (face-node-lt legs valid e l)) (and-from _ _ (eq-eqb (face-node legs e) _ refl) (not-from-false _ (ne-eqb _ _ ne)))
 
   switch-room : (e : ℕ) → 0 < cond (switch legs e) 1 0 → switch legs e ≡ true
@@ -63,9 +63,9 @@ module _ (legs : List Leg) (valid : valid-legs legs ≡ true) where
   key-angle : (e : ℕ) → e < ends legs → Key (angle-side legs e) (back-side legs e) (ends legs + 2 * e)
   key-angle e l h =
       let off : (eqb (face-node legs e) (face-node legs (twin e)) && not (eqb (face legs e) (face legs (twin e)))) ≡ false = ⊎-elim
-          (λ (q : face legs e ≡ face legs (twin e)). and-right _ _ (not-from-true _ (eq-eqb _ _ q)))
-          (λ (q : face legs e ≡ face legs (twin e) → ⊥). and-left _ _ (ne-eqb _ _ (λ r. q (face-node-one legs valid e (twin e) l (twin-lt (length legs) e l) r))))
-          (cases-eq (face legs e) (face legs (twin e))) in
+      (λ (q : face legs e ≡ face legs (twin e)). and-right _ _ (not-from-true _ (eq-eqb _ _ q)))
+      (λ (q : face legs e ≡ face legs (twin e) → ⊥). and-left _ _ (ne-eqb _ _ (λ r. q (face-node-one legs valid e (twin e) l (twin-lt (length legs) e l) r))))
+      (cases-eq (face legs e) (face legs (twin e))) in
       second-of _ _ _ _ _ (lt-ltb _ _ (face-node-lt legs valid (twin e) (twin-lt (length legs) e l))) off
 
   key-back : (e : ℕ) → e < ends legs → Key (back-side legs e) (angle-side legs e) (ends legs + (2 * e + 1))
