@@ -1,5 +1,5 @@
 -- The nodes of a plan's network: its faces by the ends that name them, then its sources and sinks by their lowest ends.
-use mathlib.Core.Bool.{Bool, cond, _&&_}
+use mathlib.Core.Bool.{Bool, _&&_}
 use mathlib.Core.List.{List}
 use Prim.Native.Nat.{ℕ, _+_}
 use lib.Dec.{eqb}
@@ -9,7 +9,6 @@ use Rattle.survey.specs.Counting.{count}
 use Rattle.survey.specs.Ends.{ends, same-station, first-at-station}
 use Rattle.embedding.specs.Walks.{seek}
 use Rattle.embedding.specs.Rotation.{face, faces}
-use Rattle.embedding.specs.Demands.{demand}
 use Rattle.shape.specs.Shapes.{switch}
 
 -- an end that names its face

@@ -1,14 +1,13 @@
 -- A plan's network: units go from sources and sinks through their angles to faces, and across legs from face to face.
 -- Sides are paired, 2k and 2k + 1, and a side leads from the node of its twin to its own. Leg i has sides 2i, from its right face to its
 -- left, and 2i + 1 back. After the legs' sides come those of the angles: the angle of end e has sides 2m + 2e, to its face, and the next, back.
-use mathlib.Core.Bool.{Bool, true, false, cond, _||_}
+use mathlib.Core.Bool.{true, false, cond}
 use mathlib.Core.List.{List}
-use Prim.Native.Nat.{ℕ, _+_, _-_, _*_, _/_, _%_}
+use Prim.Native.Nat.{ℕ, _+_, _-_, _*_, _/_}
 use lib.Dec.{eqb, ltb}
-use lib.ListN.{length}
 use Rattle.survey.specs.declared.leg.Leg.{Leg}
 use Rattle.survey.specs.Ends.{ends, outgoing}
-use Rattle.embedding.specs.Rotation.{face, faces, next, twin}
+use Rattle.embedding.specs.Rotation.{face, faces, twin}
 use Rattle.embedding.specs.Demands.{demand}
 use Rattle.search.specs.declared.Side.{Side}
 use Rattle.shape.specs.Shapes.{Shape, switch, leg-at}
@@ -58,8 +57,8 @@ plan-gives legs outer v = cond (ltb v (faces legs)) (beneath (demand legs outer 
 abbrev pub shape-units : List Leg → Shape → ℕ → ℕ
 shape-units legs z s =
     cond (ltb s (ends legs))
-        (cond (eqb (face legs s) (face legs (twin s))) 0 (cond (outgoing s) (z .right (s / 2) / 2) (z .left (s / 2) / 2)))
-        (cond (outgoing s) (cond (z .large ((s - ends legs) / 2)) 1 0) 0)
+    (cond (eqb (face legs s) (face legs (twin s))) 0 (cond (outgoing s) (z .right (s / 2) / 2) (z .left (s / 2) / 2)))
+    (cond (outgoing s) (cond (z .large ((s - ends legs) / 2)) 1 0) 0)
 
 -- the shape that units make
 abbrev pub units-shape : List Leg → (ℕ → ℕ) → Shape
