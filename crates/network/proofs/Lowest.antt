@@ -15,8 +15,12 @@ use Rattle.embedding.specs.Walks.{seek}
 use Rattle.embedding.specs.Tables.{Holds}
 use Rattle.cycles.proofs.Seeking.{seek-hit, seek-more, seek-end}
 use Rattle.shape.specs.Nodes.{lowest-at}
+use Rattle.shape.proofs.Ranks.{every-is, Sought, sought}
 use Rattle.network.specs.Tables.{lowest-from}
-use Rattle.network.proofs.Counts.{seek-first, seek-passed, seek-le, every-pass, every-one}
+
+-- a test that cannot pass fails
+not-so : (b : Bool) → (b ≡ true → ⊥) → b ≡ false
+not-so b n = ⊎-elim (λ (t : b ≡ true). absurd (n t)) (λ (f : b ≡ false). f) (cases-bool b)
 
 module _ (legs : List Leg) where
   -- one end lower is written
@@ -39,17 +43,21 @@ module _ (legs : List Leg) where
   here : (e : ℕ) → same-station legs e e ≡ true
   here e = eq-eqb (station legs e) (station legs e) refl
 
-  pub lowest-le : (e : ℕ) → lowest-at legs e ≤ e
-  lowest-le e = seek-le (λ k. same-station legs e k) (ends legs) e (here e)
+  found : (e : ℕ) → e < ends legs → Sought (λ k. same-station legs e k) 0 e (lowest-at legs e)
+  found e l = sought (λ k. same-station legs e k) (ends legs) 0 e (omega arith) (omega arith) (here e)
+
+  pub lowest-le : (e : ℕ) → e < ends legs → lowest-at legs e ≤ e
+  lowest-le e l = found e l .within
 
   -- an end is the first of its station where it is the lowest there
   pub lowest-first : (e : ℕ) → e < ends legs → eqb (lowest-at legs e) e ≡ first-at-station legs e
-  lowest-first e l = ⊎-elim
-      (λ (t : first-at-station legs e ≡ true).
-      eq-eqb (lowest-at legs e) e (seek-first (λ k. same-station legs e k) (ends legs) e l (here e) (λ k b. not-true (same-station legs e k) (every-one (λ k. not (same-station legs e k)) e t k b)))
-      ∙ sym t)
-      (λ (f : first-at-station legs e ≡ false).
-      ne-eqb (lowest-at legs e) e
-      (λ q. both-ways (first-at-station legs e) f (every-pass (λ k. not (same-station legs e k)) e (λ k b. not-from-false (same-station legs e k) (seek-passed (λ k. same-station legs e k) (ends legs) 0 k (omega arith) (omega arith)))))
-      ∙ sym f)
-      (cases-bool (first-at-station legs e))
+  lowest-first e l =
+      let w = found e l in
+      let low = w .within in
+      let all = every-is (λ k. not (same-station legs e k)) e in
+      ⊎-elim
+      (λ (q : lowest-at legs e ≡ e). eq-eqb (lowest-at legs e) e q ∙ sym (all .1 (λ k b. not-from-false (same-station legs e k) (w .first k (omega arith) (omega arith)))))
+      (λ (n : lowest-at legs e ≢ e).
+      ne-eqb (lowest-at legs e) e n
+      ∙ sym (not-so (first-at-station legs e) (λ t. both-ways (same-station legs e (lowest-at legs e)) (not-true (same-station legs e (lowest-at legs e)) (all .0 t (lowest-at legs e) (omega arith))) (w .passes))))
+      (cases-eq (lowest-at legs e) e)

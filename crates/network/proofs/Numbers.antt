@@ -13,13 +13,14 @@ use Rattle.std.proofs.shelf.Tests.{cond-true, cond-false, cond-both, eq-eqb, ne
 use Rattle.survey.specs.declared.leg.Leg.{Leg}
 use Rattle.survey.specs.Counting.{count}
 use Rattle.survey.specs.Ends.{ends, outgoing}
-use Rattle.embedding.specs.Rotation.{faces, angle-face}
+use Rattle.survey.specs.Model.{valid-legs}
+use Rattle.embedding.specs.Rotation.{face, faces, angle-face}
 use Rattle.embedding.specs.Demands.{source-switch, source-switches, demand}
 use Rattle.embedding.proofs.Reached.{count-bound}
 use Rattle.search.specs.declared.Side.{Side}
-use Rattle.shape.specs.Nodes.{names-face, naming, above, beneath}
+use Rattle.shape.specs.Nodes.{names-face, above, beneath}
 use Rattle.shape.specs.Units.{leg-side, angle-side, back-side, plan-side, plan-wants, plan-gives}
-use Rattle.network.proofs.Counts.{count-past, seek-counted}
+use Rattle.shape.proofs.Places.{face-rank-lt, naming-of}
 
 module _ (legs : List Leg) where
   pub plan-leg : (s : ℕ) → s < ends legs → plan-side legs s ≡ leg-side legs s
@@ -40,20 +41,12 @@ module _ (legs : List Leg) where
       let h : (s - ends legs) / 2 ≡ e = omega arith in
       past s (omega arith) ∙ cond-false (outgoing s) (angle-side legs ((s - ends legs) / 2)) (back-side legs ((s - ends legs) / 2)) (ne-eqb (s % 2) 0 (λ q. omega arith)) ∙ ap (back-side legs) h
 
-  module _ (e : ℕ) (l : e < ends legs) (t : names-face legs e ≡ true) where
-    -- the node of a face is one of those of faces
-    rank-lt : count (names-face legs) e < faces legs
-    rank-lt = count-past (names-face legs) e (ends legs) l t
+module _ (legs : List Leg) (valid : valid-legs legs ≡ true) (e : ℕ) (l : e < ends legs) (t : face legs e ≡ e) (outer : ℕ) where
+  pub wants-at : plan-wants legs outer (count (names-face legs) e) ≡ above (demand legs outer e)
+  wants-at = cond-true {A = ℕ} (ltb (count (names-face legs) e) (faces legs)) _ 0 (lt-ltb _ _ (face-rank-lt legs valid e l t)) ∙ ap (λ (f : ℕ). above (demand legs outer f)) (naming-of legs valid e l t)
 
-    -- the end that names the face of this node
-    names : naming legs (count (names-face legs) e) ≡ e
-    names = seek-counted (names-face legs) (ends legs) e l t
-
-    pub wants-at : (outer : ℕ) → plan-wants legs outer (count (names-face legs) e) ≡ above (demand legs outer e)
-    wants-at outer = cond-true {A = ℕ} (ltb (count (names-face legs) e) (faces legs)) _ 0 (lt-ltb _ _ rank-lt) ∙ ap (λ (f : ℕ). above (demand legs outer f)) names
-
-    pub gives-at : (outer : ℕ) → plan-gives legs outer (count (names-face legs) e) ≡ beneath (demand legs outer e)
-    gives-at outer = cond-true {A = ℕ} (ltb (count (names-face legs) e) (faces legs)) _ 1 (lt-ltb _ _ rank-lt) ∙ ap (λ (f : ℕ). beneath (demand legs outer f)) names
+  pub gives-at : plan-gives legs outer (count (names-face legs) e) ≡ beneath (demand legs outer e)
+  gives-at = cond-true {A = ℕ} (ltb (count (names-face legs) e) (faces legs)) _ 1 (lt-ltb _ _ (face-rank-lt legs valid e l t)) ∙ ap (λ (f : ℕ). beneath (demand legs outer f)) (naming-of legs valid e l t)
 
 -- a demand is at least -1 and at most one more than the number of ends
 module _ (legs : List Leg) (few : length legs ≤ 256) (outer f : ℕ) where

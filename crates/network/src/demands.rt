@@ -47,6 +47,7 @@ fn fill_face_units(
     wants: &mut [u16],
     gives: &mut [u16],
 ) -> usize
+    requires valid { ⌜ valid-legs (now legs) ≡ true ⌝ }
     requires few { ⌜ length (now legs) ≤ 256 ⌝ }
     requires named { ⌜ Holds 0 (face (now legs)) (now faces) (ends (now legs)) ⌝ }
     requires places { ⌜ ends (now legs) ≤ length (now faces) ⌝ }

@@ -62,11 +62,11 @@ loop-e-again c =
     let low = count-bound (names-face legs) e in
     elim (c .if-faces-e .came) [
       | then-faces-e w ↦
-          (let t : names-face legs e ≡ true = eq-eqb (face legs e) e (sym at ∙ w .if-faces-e .taken) in
-          let y = count-yes (names-face legs) e t in
+          (let t : face legs e ≡ e = sym at ∙ w .if-faces-e .taken in
+          let y = count-yes (names-face legs) e (eq-eqb (face legs e) e t) in
           let n = w .v-is in
-          let x = holds-more 0 (plan-wants legs outer) (c .loop-e .wants) v (w .above .result) (omega arith) (c .loop-e .inv .1) (w .above .ensures ∙ ap above d ∙ sym (ap (plan-wants legs outer) q ∙ wants-at legs e l t outer)) in
-          let z = holds-more 0 (plan-gives legs outer) (c .loop-e .gives) v (w .beneath .result) (omega arith) (c .loop-e .inv .2) (w .beneath .ensures ∙ ap beneath d ∙ sym (ap (plan-gives legs outer) q ∙ gives-at legs e l t outer)) in (
+          let x = holds-more 0 (plan-wants legs outer) (c .loop-e .wants) v (w .above .result) (omega arith) (c .loop-e .inv .1) (w .above .ensures ∙ ap above d ∙ sym (ap (plan-wants legs outer) q ∙ wants-at legs (c .pre .valid) e l t outer)) in
+          let z = holds-more 0 (plan-gives legs outer) (c .loop-e .gives) v (w .beneath .result) (omega arith) (c .loop-e .inv .2) (w .beneath .ensures ∙ ap beneath d ∙ sym (ap (plan-gives legs outer) q ∙ gives-at legs (c .pre .valid) e l t outer)) in (
             omega arith,
             transport (λ i. Holds 0 (plan-wants legs outer) (sym (w .wants-is) i) (sym n i)) (x),
             transport (λ i. Holds 0 (plan-gives legs outer) (sym (w .gives-is) i) (sym n i)) (z),

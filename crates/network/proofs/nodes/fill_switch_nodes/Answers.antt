@@ -34,7 +34,7 @@ fill-numbers-requires c κs =
       ranked = omega arith;
       room = c .pre .space;
       start = omega arith;
-      inside = λ k l. let a = c .fill-lowest .ensures k l in let b = lowest-le legs k in omega arith;
+      inside = λ k l. let a = c .fill-lowest .ensures k l in let b = lowest-le legs k l in omega arith;
       low = λ k l. let a = rank-le (names-switch legs) _ (ends legs) m _ k (c .fill-ranks-count .ensures .each) l in omega arith;
     }
 
@@ -54,7 +54,7 @@ returns c =
     record {
       count = λ i. q i + t i;
       nodes = λ e l.
-          let b = lowest-le legs e in
+          let b = lowest-le legs e l in
           c .fill-numbers .ensures e l
           ∙ numbered-is (names-switch legs) _ (ends legs) m (lowest-at legs) _ _ (c .args .faces) e (c .fill-lowest .ensures) (c .fill-ranks-count .ensures .each) l (omega arith)
           ∙ ap (λ (x : ℕ). x + count (names-switch legs) (lowest-at legs e)) q;
