@@ -1,6 +1,6 @@
 -- The sides by their numbers: those of the legs first, then two for each angle; and the units of the faces by theirs.
-use mathlib.Core.Path.{_≡_, refl, sym, ap, _∙_}
-use mathlib.Core.Bool.{Bool, true, false, cond, _&&_}
+use mathlib.Core.Path.{_≡_, ap, _∙_}
+use mathlib.Core.Bool.{true, cond, _&&_}
 use mathlib.Core.List.{List}
 use Prim.Native.Nat.{ℕ, _+_, _-_, _*_, _/_, _%_, _<_, _≤_}
 use native.Mathlib.Omega.{arith}
@@ -17,7 +17,6 @@ use Rattle.survey.specs.Model.{valid-legs}
 use Rattle.embedding.specs.Rotation.{face, faces, angle-face}
 use Rattle.embedding.specs.Demands.{source-switch, source-switches, demand}
 use Rattle.embedding.proofs.Reached.{count-bound}
-use Rattle.search.specs.declared.Side.{Side}
 use Rattle.shape.specs.Nodes.{names-face, above, beneath}
 use Rattle.shape.specs.Units.{leg-side, angle-side, back-side, plan-side, plan-wants, plan-gives}
 use Rattle.shape.proofs.Places.{face-rank-lt, naming-of}

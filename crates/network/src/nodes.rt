@@ -9,7 +9,7 @@ ghost use Rattle.survey.specs.Model.{valid-legs};
 ghost use Rattle.embedding.specs.Rotation.{face, faces as faces-of};
 ghost use Rattle.embedding.specs.Tables.{Holds};
 ghost use Rattle.shape.specs.Shapes.{switch};
-ghost use Rattle.shape.specs.Nodes.{names-face, names-switch, face-node, lowest-at, switch-node, nodes as nodes-of};
+ghost use Rattle.shape.specs.Nodes.{face-node, lowest-at, switch-node, nodes as nodes-of};
 ghost use Rattle.network.specs.Tables.{rank, numbered, lowest-from};
 use directions::fill_sinks;
 use directions::fill_sources;

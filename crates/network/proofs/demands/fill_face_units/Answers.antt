@@ -1,18 +1,12 @@
 -- One face more has its units.
 use mathlib.Core.Path.{_≡_, sym, ap, subst, transport, _∙_}
 use mathlib.Core.Bool.{true}
-use mathlib.Core.List.{List}
-use Prim.Native.Nat.{ℕ, _+_}
 use native.Mathlib.Omega.{arith}
 use borrow.Author.Needs.{needs}
-use lib.Dec.{eqb}
 use lib.IntN.{ℤ, pos, negsuc}
-use lib.ListN.{getD}
 use lib.Signed.{leZ}
 use Rattle.std.proofs.shelf.Tests.{eq-eqb, ne-eqb}
-use Rattle.survey.specs.Ends.{ends}
 use Rattle.embedding.specs.Rotation.{face}
-use Rattle.embedding.specs.Demands.{demand}
 use Rattle.embedding.specs.Tables.{Holds}
 use Rattle.embedding.proofs.Reached.{count-bound}
 use Rattle.cycles.proofs.Tables.{holds-more, count-yes, count-no}

@@ -1,6 +1,5 @@
 -- The faces that ends before the index name have their units.
 use mathlib.Core.Path.{_≡_}
-use Prim.Native.Nat.{_≤_}
 use Rattle.survey.specs.Counting.{count}
 use Rattle.embedding.specs.Tables.{Holds}
 use Rattle.shape.specs.Nodes.{names-face}

@@ -1,8 +1,8 @@
 -- The two sides of one angle more are made.
 use mathlib.Core.Path.{_≡_, sym, subst, _∙_}
-use Prim.Native.Nat.{ℕ, _+_, _*_, _<_}
+use Prim.Native.Nat.{ℕ, _+_, _*_}
 use native.Mathlib.Omega.{arith}
-use lib.ListN.{length, set, length-set}
+use lib.ListN.{set, length-set}
 use Rattle.survey.specs.Ends.{ends}
 use Rattle.embedding.specs.Tables.{Holds}
 use Rattle.cycles.proofs.Tables.{holds-more}
