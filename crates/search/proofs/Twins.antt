@@ -10,11 +10,11 @@ pub twin-by : (s r : ℕ) → r ≡ twin-of s → r ≡ twin s
 unfolding twin
 twin-by s r e = e
 
-twin-even : (s : ℕ) → s % 2 ≡ 0 → twin s ≡ s + 1
+pub twin-even : (s : ℕ) → s % 2 ≡ 0 → twin s ≡ s + 1
 unfolding twin
 twin-even s h = cond-true _ _ _ (eq-eqb (s % 2) 0 h)
 
-twin-odd : (s : ℕ) → (s % 2 ≡ 0 → ⊥) → twin s ≡ s - 1
+pub twin-odd : (s : ℕ) → (s % 2 ≡ 0 → ⊥) → twin s ≡ s - 1
 unfolding twin
 twin-odd s h = cond-false _ _ _ (ne-eqb (s % 2) 0 h)
 

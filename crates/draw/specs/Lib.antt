@@ -1,0 +1,5 @@
+pub mod Tables
+pub mod Shapes
+pub mod Routes
+pub mod Drawings
+pub mod Outcomes

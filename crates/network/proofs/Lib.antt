@@ -1,0 +1,4 @@
+mod Counts
+mod Lowest
+mod Numbers
+pub mod Ranges

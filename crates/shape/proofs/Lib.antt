@@ -1,0 +1,11 @@
+pub mod Ranks
+pub mod Splits
+pub mod Places
+pub mod Listed
+pub mod ProperSides
+pub mod AtNodes
+pub mod Halves
+pub mod Prices
+pub mod Wanted
+pub mod ToFlow
+pub mod ToShape

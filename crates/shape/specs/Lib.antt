@@ -1,0 +1,4 @@
+pub mod Shapes
+pub mod Nodes
+pub mod Units
+pub mod Statements
