@@ -43,6 +43,14 @@ const BLANK_SIDE: Side = Side {
     free: false,
 };
 
+// The outer side of a plan: a leg, and 0 for its left or 1 for its right.
+fn outer_of(plan: &Plan) -> (usize, u32)
+    ensures leg { λ r. ⌜ r .0 ≡ now (plan .entry) .outer ⌝ }
+    ensures side { λ r. ⌜ r .1 ≡ now (plan .entry) .side ⌝ }
+{
+    (plan.outer_leg(), plan.outer_side())
+}
+
 // Puts the plan and the shape that the units make into the drawing, and tells the price.
 fn keep<T: Tariff>(plan: &Plan, tariff: &T, flow: &[u16], drawing: &mut Drawing) -> T::Price
     requires flow { ⌜ length (now flow) ≡ side-count (plan-legs (now plan)) ⌝ }
@@ -60,10 +68,11 @@ fn keep<T: Tariff>(plan: &Plan, tariff: &T, flow: &[u16], drawing: &mut Drawing)
     fill_bends(flow, count, 1, &mut left);
     fill_bends(flow, count, 0, &mut right);
     let price = price_bends(tariff, plan.as_slice(), &left, &right);
+    let (outer, side) = outer_of(plan);
     drawing.legs = legs;
     drawing.count = count;
-    drawing.outer = plan.outer_leg();
-    drawing.side = plan.outer_side();
+    drawing.outer = outer;
+    drawing.side = side;
     drawing.large = large;
     drawing.left = left;
     drawing.right = right;

@@ -26,6 +26,13 @@ fn multiply<P: Price>(price: P, count: u32) -> P
     total
 }
 
+// The bends on a leg.
+fn bends_on(left: u16, right: u16) -> u32
+    ensures { λ r. ⌜ r ≡ left + right ⌝ }
+{
+    left as u32 + right as u32
+}
+
 /// The price of all bends of legs: a sum over the legs, of which each bend costs what the tariff tells.
 pub fn price_bends<T: Tariff>(tariff: &T, legs: &[Leg], left: &[u16], right: &[u16]) -> T::Price
     requires valid { ⌜ valid-legs (now legs) ≡ true ⌝ }
@@ -38,7 +45,7 @@ pub fn price_bends<T: Tariff>(tariff: &T, legs: &[Leg], left: &[u16], right: &[u
     let mut total = <T::Price as Price>::zero();
     for i in 0..legs.len() {
         let bend = tariff.bend_price(legs[i].weight, legs[i].wet);
-        total = total.add(multiply(bend, left[i] as u32 + right[i] as u32));
+        total = total.add(multiply(bend, bends_on(left[i], right[i])));
     }
     total
 }

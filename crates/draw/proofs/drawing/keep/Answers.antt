@@ -1,6 +1,6 @@
 -- The tables hold the plan and the shape that the units make.
 use mathlib.Core.Path.{_≡_, sym, ap, subst, _∙_}
-use mathlib.Core.Bool.{false, cond}
+use mathlib.Core.Bool.{cond}
 use mathlib.Core.List.{List, []}
 use Prim.Native.Nat.{ℕ, _+_, _*_, _≤_, _<_}
 use native.Mathlib.Omega.{arith}
@@ -14,7 +14,6 @@ use Rattle.plan.specs.States.{plan-legs, outer-face, state}
 use Rattle.search.specs.Networks.{units}
 use Rattle.shape.specs.Shapes.{switch, large-at, shape-price}
 use Rattle.draw.specs.Tables.{shape-of}
-use Rattle.draw.proofs.First.{same-all}
 use Rattle.draw.proofs.Held.{plan-few}
 use Rattle.draw.proofs.Kept.{units-small, Filled, ends-there, bends-small, tables-valid, least-shape}
 use Rattle.draw.proofs.drawing.keep.Needs as need
@@ -28,7 +27,7 @@ fill-large-requires g c κs =
     let few = plan-few (c .args .plan .now) in
     let n = c .count-count .ensures in
     let f = c .pre .flow in
-    record { flow = omega arith; room = omega arith; blank = same-all false 512 }
+    record { few = omega arith; flow = omega arith; room = omega arith }
 
 pub fill-bends-requires : need.fill-bends-requires
 fill-bends-requires g c κs =
@@ -41,7 +40,6 @@ fill-bends-requires g c κs =
       flow = omega arith;
       room = omega arith;
       small = λ i l. units-small (plan-legs p) (outer-face p) (units (c .args .flow .now)) (p .valid) (c .pre .least .valid) i (omega arith) .0;
-      blank = same-all {A = ℕ} 0 256;
     }
 
 pub fill-bends-requires-2 : need.fill-bends-requires-2
@@ -58,7 +56,6 @@ fill-bends-requires-2 g c κs =
           let z : 2 * i + 0 ≡ 2 * i = omega arith in
           let s = units-small (plan-legs p) (outer-face p) (units (c .args .flow .now)) (p .valid) (c .pre .least .valid) i (omega arith) .1 in
           subst (λ (j : ℕ). units (c .args .flow .now) j ≤ 1000) (sym z) s;
-      blank = same-all {A = ℕ} 0 256;
     }
 
 pub price-bends-price-requires : need.price-bends-price-requires
@@ -84,8 +81,8 @@ ghost-drawing g c =
     let n = c .count-count .ensures in
     let table = c .copy-legs .last .table in
     let same : take (c .count-count .result) table ≡ plan-legs p = front-same table (c .as-slice .result .now) (plan-legs p) (c .count-count .result) n (c .as-slice .ensures) (c .copy-legs .ensures) in
-    let o = c .outer-leg-drawing .ensures in
-    let s = c .outer-side-drawing .ensures in
+    let o = c .outer-of-outer .ensures .leg in
+    let s = c .outer-of-outer .ensures .side in
     let h : Filled (c .count-count .result) (units (c .args .flow .now)) (shape-of (c .fill-large .last .large) (c .fill-bends .last .bends) (c .fill-bends-2 .last .bends)) = record { large = c .fill-large .ensures; left = c .fill-bends .ensures; right = c .fill-bends-2 .ensures } in
     let past = ends-there (plan-legs p) (c .count-count .result) n (units (c .args .flow .now)) _ _ _ h in
     let v = tables-valid (plan-legs p) (c .count-count .result) n (units (c .args .flow .now)) _ _ _ h (outer-face p) (c .pre .least .valid) in
@@ -127,8 +124,8 @@ returns g c =
     let n = c .count-count .ensures in
     let table = c .copy-legs .last .table in
     let same : take (c .count-count .result) table ≡ plan-legs p = front-same table (c .as-slice .result .now) (plan-legs p) (c .count-count .result) n (c .as-slice .ensures) (c .copy-legs .ensures) in
-    let o = c .outer-leg-drawing .ensures in
-    let s = c .outer-side-drawing .ensures in
+    let o = c .outer-of-outer .ensures .leg in
+    let s = c .outer-of-outer .ensures .side in
     let rate = g .T·Tariff .rate (c .args .tariff .now) in
     let tables = shape-of [] (c .fill-bends .last .bends) (c .fill-bends-2 .last .bends) in
     let h : Filled (c .count-count .result) (units (c .args .flow .now)) (shape-of (c .fill-large .last .large) (c .fill-bends .last .bends) (c .fill-bends-2 .last .bends)) = record { large = c .fill-large .ensures; left = c .fill-bends .ensures; right = c .fill-bends-2 .ensures } in

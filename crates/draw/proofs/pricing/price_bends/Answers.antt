@@ -14,6 +14,7 @@ multiply-requires g c κs =
     let i = c .loop-i .i in
     let b = c .pre .bends i (omega arith) in
     let w = weight-le (c .args .legs .now) i (c .pre .valid) (omega arith) in
+    let k = c .bends-on .ensures in
     let e = ap (g .Price·Price .ops .size) (c .bend-price-bend .ensures) in
     let s = g .T·Tariff·met .small (c .args .tariff .now) (leg-at (c .args .legs .now) i .weight) (leg-at (c .args .legs .now) i .wet) w in
     record { count = omega arith; small = omega arith }
@@ -24,6 +25,7 @@ loop-i-holds g c = let z = ap (g .Price·Price .ops .size) (c .zero-total .ensur
 pub add-total-requires : need.add-total-requires
 add-total-requires g c κs =
     let b = c .pre .bends (c .loop-i .i) (omega arith) in
+    let k = c .bends-on .ensures in
     let s = c .multiply .ensures .small in
     let i = c .loop-i .inv .1 in
     omega arith
@@ -36,7 +38,8 @@ loop-i-again g c =
     let i = c .loop-i .i in
     let f : ℕ → g .T·Price .Denot = λ i. times (o .zero) (o .plus) (getD (c .args .left .now) i 0 + getD (c .args .right .now) i 0) (rate (leg-at legs i .weight) (leg-at legs i .wet)) in
     let b = c .pre .bends i (omega arith) in
-    let m : c .multiply .result ≡ f i = c .multiply .ensures .value ∙ ap (times (o .zero) (o .plus) (getD (c .args .left .now) i 0 + getD (c .args .right .now) i 0)) (c .bend-price-bend .ensures) in
+    let k = c .bends-on .ensures in
+    let m : c .multiply .result ≡ f i = c .multiply .ensures .value ∙ ap (λ (n : ℕ). times (o .zero) (o .plus) n (c .bend-price-bend .result)) k ∙ ap (times (o .zero) (o .plus) (getD (c .args .left .now) i 0 + getD (c .args .right .now) i 0)) (c .bend-price-bend .ensures) in
     let e = c .add-total .ensures in
     let s = ap (o .size) e in
     let z = g .Price·Price·met .laws .size-plus (c .loop-i .total) (c .multiply .result) in
