@@ -86,9 +86,19 @@ fn print_summary(rt: &LibcRuntime, drawing: &Drawing) -> io::Result<()> {
 fn draw_cave(table: &mut SurveyTable, drawing: &mut Drawing) -> Result<(), Refusal> {
     let mut steps = [Step::new(Call::Plan { leg: 0, side: 0 })];
     let price = Plain { value: 0 };
-    let mut places = [Label { price, end: NO_PRICE }; 260];
+    let mut places = [Label {
+        price,
+        end: NO_PRICE,
+    }; 260];
     let mut labels = SliceVec::new(&mut places);
-    let drawn = run(table, &mut steps, Plan::new(), &PlainTariff, &mut labels, drawing);
+    let drawn = run(
+        table,
+        &mut steps,
+        Plan::new(),
+        &PlainTariff,
+        &mut labels,
+        drawing,
+    );
     match (steps[0].answer, drawn) {
         (Err(cause), _) => Err(cause),
         (Ok(_), Err(cause)) => Err(cause),

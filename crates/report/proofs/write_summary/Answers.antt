@@ -20,4 +20,5 @@ returns c =
     let e = summary-whole (c .args .stations) (c .args .legs) (c .args .faces) (c .args .bends) in
     record {
       answer = c .write .ensures .answer ∙ ap (write-answer (length (c .args .out .now))) e;
-      out = c .write .ensures .out ∙ ap (written (c .args .out .now)) e }
+      out = c .write .ensures .out ∙ ap (written (c .args .out .now)) e;
+    }
