@@ -22,7 +22,7 @@ pub record Agree (legs : List Leg) (z z′ : Shape) : Type 0 where
   pub right : (i : ℕ) → i < length legs → z .right i ≡ z′ .right i
 
 module _ (legs : List Leg) (z z′ : Shape) (a : Agree legs z z′) where
-  pub same-large-at : (e : ℕ) → large-at legs z e ≡ large-at legs z′ e
+  same-large-at : (e : ℕ) → large-at legs z e ≡ large-at legs z′ e
   same-large-at e = count-same (λ k. same-station legs e k && z .large k) (λ k. same-station legs e k && z′ .large k) (ends legs) (λ k l. ap (λ (b : Bool). same-station legs e k && b) (a .large k l))
 
   same-large-in : (f : ℕ) → large-in legs z f ≡ large-in legs z′ f

@@ -13,7 +13,7 @@ use Rattle.shape.specs.Shapes.{Shape, switch, large-at}
 use Rattle.shape.proofs.Ranks.{rank-lt}
 
 -- what is counted is there
-pub count-none : (p : ℕ → Bool) (n : ℕ) → ((k : ℕ) → k < n → p k ≡ true → ⊥) → count p n ≡ 0
+count-none : (p : ℕ → Bool) (n : ℕ) → ((k : ℕ) → k < n → p k ≡ true → ⊥) → count p n ≡ 0
 count-none p zero h = refl
 count-none p (suc n) h = ⊎-elim
     (λ (t : p n ≡ true). absurd (h n (omega arith) t))

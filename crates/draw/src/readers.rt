@@ -1,6 +1,6 @@
 // What a drawing tells.
 ghost use mathlib.Core.Path.{_≡_};
-ghost use Prim.Native.Nat.{_≤_};
+ghost use Prim.Native.Nat.{_+_, _<_, _≤_};
 ghost use lib.ListN.{length};
 ghost use Rattle.survey.specs.Ends.{stations as stations-of};
 ghost use Rattle.survey.specs.Model.{told-leg, query-answer};
@@ -94,13 +94,22 @@ impl Drawing {
         if i < self.count { self.right[i] } else { 0 }
     }
 
+    // The bends of a leg to both sides.
+    fn leg_bends(&self, i: usize) -> usize
+        requires { ⌜ i < now self .count ⌝ }
+        ensures bends { λ r. ⌜ r ≡ drawing-shape (now (self .entry)) .left i + drawing-shape (now (self .entry)) .right i ⌝ }
+        ensures small { λ r. ⌜ r ≤ 131070 ⌝ }
+    {
+        self.left[i] as usize + self.right[i] as usize
+    }
+
     /// The number of bends on all legs.
     pub fn bends(&self) -> usize
         ensures { λ r. ⌜ r ≡ bends-of (drawing-legs (now (self .entry))) (drawing-shape (now (self .entry))) ⌝ }
     {
         let mut total = 0;
         for i in 0..self.count {
-            total += self.left[i] as usize + self.right[i] as usize;
+            total += self.leg_bends(i);
         }
         total
     }

@@ -13,5 +13,7 @@ loop-i-again c =
     let i = c .loop-i .i in
     let f : ℕ → ℕ = λ i. getD (d .left) i 0 + getD (d .right) i 0 in
     let m : sum 0 _+_ (i + 1) f ≡ sum 0 _+_ i f + f i = ap (λ n. sum 0 _+_ n f) (add-one i) in
+    let k = c .leg-bends-total .ensures .bends in
+    let l = c .leg-bends-total .ensures .small in
     let a = c .loop-i .inv .0 in
     let b = c .loop-i .inv .1 in (omega arith, omega arith)
