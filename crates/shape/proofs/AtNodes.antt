@@ -112,13 +112,16 @@ module _ (legs : List Leg) (valid : valid-legs legs ≡ true) (sides : List Side
       let o = sum-zero numbers (ends legs) (λ e. 0) (λ e m. refl) in
       omega arith
 
+  -- past the faces there is no face
+  no-face : (v : ℕ) → faces legs ≤ v → (e : ℕ) → e < ends legs → eqb (face-node legs e) v ≡ false
+  no-face v l e m = let n = face-node-lt legs valid e m in ne-eqb _ _ (λ (q : face-node legs e ≡ v). omega arith)
+
   -- nothing leads to a source or sink
   pub comes-switch : (v : ℕ) → faces legs ≤ v → comes sides f v ≡ 0
   comes-switch v l =
-      let off : (e : ℕ) → e < ends legs → eqb (face-node legs e) v ≡ false = λ e m. let n = face-node-lt legs valid e m in ne-eqb _ _ (λ (q : face-node legs e ≡ v). omega arith) in
       let a = at-node (λ s. side-at sides s .node) v (λ e. 0) (λ e. 0)
-      (λ e m. same-pick _ _ _ _ (to-node e v false (side-leg legs sides holds e m) (off e m)) refl)
-      (λ e m. same-pick _ _ _ _ (to-node (ends legs + 2 * e) v false (side-angle legs sides holds e m) (off (twin e) (twin-lt (length legs) e m))) refl) in
+      (λ e m. same-pick _ _ _ _ (to-node e v false (side-leg legs sides holds e m) (no-face v l e m)) refl)
+      (λ e m. same-pick _ _ _ _ (to-node (ends legs + 2 * e) v false (side-angle legs sides holds e m) (no-face v l (twin e) (twin-lt (length legs) e m))) refl) in
       let o = sum-zero numbers (ends legs) (λ e. 0) (λ e m. refl) in
       omega arith
 
@@ -139,9 +142,8 @@ module _ (legs : List Leg) (valid : valid-legs legs ≡ true) (sides : List Side
   pub leaves-switch : (e : ℕ) → e < ends legs → switch legs e ≡ true → leaves sides f (switch-node legs e) ≡ large-at legs z e
   leaves-switch e l t =
       let v : ℕ = switch-node legs e in
-      let off : (e : ℕ) → e < ends legs → eqb (face-node legs e) v ≡ false = λ e m. let n = face-node-lt legs valid e m in ne-eqb _ _ (λ (q : face-node legs e ≡ v). omega arith) in
       let a = at-node (λ s. side-at sides (paired s) .node) v (λ k. 0) (λ k. cond (same-station legs e k) (cond (z .large k) 1 0) 0)
-      (λ k m. same-pick _ _ _ _ (to-node (paired k) v false (side-leg-twin legs sides holds k m) (off (twin k) (twin-lt (length legs) k m))) refl)
+      (λ k m. same-pick _ _ _ _ (to-node (paired k) v false (side-leg-twin legs sides holds k m) (no-face v (omega arith) (twin k) (twin-lt (length legs) k m))) refl)
       (λ k m. same-pick _ _ _ _ (to-node (paired (ends legs + 2 * k)) v _ (side-angle-twin legs sides holds k m) refl) refl ∙ from-switch e k l t m) in
       let o = sum-zero numbers (ends legs) (λ e. 0) (λ e m. refl) in
       let c = count-sum (same-station legs e) (z .large) (ends legs) in

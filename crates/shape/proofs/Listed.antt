@@ -1,14 +1,15 @@
 -- The sides of a plan's network by what they are: of a leg, through an angle, or back.
 use mathlib.Core.Path.{_≡_, refl, sym, ap, subst, _∙_}
 use mathlib.Core.Logic.{⊎-elim}
-use mathlib.Core.Bool.{Bool, true, false, cond}
+use mathlib.Core.Bool.{cond}
 use mathlib.Core.List.{List}
 use Prim.Native.Nat.{ℕ, _+_, _-_, _*_, _/_, _%_, _≤_, _<_}
 use native.Mathlib.Omega.{arith}
+use lib.Dec.{ltb}
 use lib.ListN.{length}
 use Rattle.std.proofs.shelf.Tests.{cases-lt, cases-eq, cond-true, lt-ltb, le-ltb, eq-eqb, ne-eqb}
 use Rattle.survey.specs.declared.leg.Leg.{Leg}
-use Rattle.survey.specs.Ends.{ends}
+use Rattle.survey.specs.Ends.{ends, outgoing}
 use Rattle.embedding.specs.Rotation.{twin}
 use Rattle.embedding.proofs.Faces.{twin-lt}
 use Rattle.search.specs.declared.Side.{Side}
@@ -20,12 +21,19 @@ use Rattle.shape.specs.Units.{leg-side, angle-side, back-side, side-count, pla
 use Rattle.shape.specs.Statements.{Holds-network}
 use Rattle.shape.proofs.Splits.{sum-append, sum-pairs}
 
--- the second and the third of three cases
-pub cond-second : {A : Type 0} (b c : Bool) (x y z : A) → b ≡ false → c ≡ true → cond b x (cond c y z) ≡ y
-cond-second b c x y z p q = rw (p, q)
+-- what is told of the sides of legs, of those through angles and of those back, by end, at a side through an angle
+pub at-angle : {A : Type 0} (n e : ℕ) (x : A) (y w : ℕ → A) → n % 2 ≡ 0 → cond (ltb (n + 2 * e) n) x (cond (outgoing (n + 2 * e)) (y ((n + 2 * e - n) / 2)) (w ((n + 2 * e - n) / 2))) ≡ y e
+at-angle n e x y w even =
+    let h : (n + 2 * e - n) / 2 ≡ e = omega arith in
+    rw (le-ltb (n + 2 * e) n (omega arith), eq-eqb ((n + 2 * e) % 2) 0 (omega arith)) (ap y h)
 
-pub cond-third : {A : Type 0} (b c : Bool) (x y z : A) → b ≡ false → c ≡ false → cond b x (cond c y z) ≡ z
-cond-third b c x y z p q = rw (p, q)
+-- and at a side back
+pub at-back : {A : Type 0} (n e : ℕ) (x : A) (y w : ℕ → A) → n % 2 ≡ 0 →
+    cond (ltb (n + (2 * e + 1)) n) x (cond (outgoing (n + (2 * e + 1))) (y ((n + (2 * e + 1) - n) / 2)) (w ((n + (2 * e + 1) - n) / 2))) ≡ w e
+at-back n e x y w even =
+    let h : (n + (2 * e + 1) - n) / 2 ≡ e = omega arith in
+    let odd : (n + (2 * e + 1)) % 2 ≡ 0 → ⊥ = λ q. omega arith in
+    rw (le-ltb (n + (2 * e + 1)) n (omega arith), ne-eqb ((n + (2 * e + 1)) % 2) 0 odd) (ap w h)
 
 module _ (legs : List Leg) where
   -- a side is one of a leg, one through an angle, or one back
@@ -45,15 +53,10 @@ module _ (legs : List Leg) where
   leg-is e l = cond-true _ _ _ (lt-ltb _ _ l)
 
   angle-is : (e : ℕ) → plan-side legs (ends legs + 2 * e) ≡ angle-side legs e
-  angle-is e =
-      let h : (ends legs + 2 * e - ends legs) / 2 ≡ e = omega arith in
-      cond-second _ _ _ _ _ (le-ltb (ends legs + 2 * e) (ends legs) (omega arith)) (eq-eqb ((ends legs + 2 * e) % 2) 0 (omega arith)) ∙ ap (angle-side legs) h
+  angle-is e = at-angle (ends legs) e (leg-side legs (ends legs + 2 * e)) (angle-side legs) (back-side legs) (omega arith)
 
   back-is : (e : ℕ) → plan-side legs (ends legs + (2 * e + 1)) ≡ back-side legs e
-  back-is e =
-      let h : (ends legs + (2 * e + 1) - ends legs) / 2 ≡ e = omega arith in
-      let odd : (ends legs + (2 * e + 1)) % 2 ≡ 0 → ⊥ = λ q. omega arith in
-      cond-third _ _ _ _ _ (le-ltb (ends legs + (2 * e + 1)) (ends legs) (omega arith)) (ne-eqb ((ends legs + (2 * e + 1)) % 2) 0 odd) ∙ ap (back-side legs) h
+  back-is e = at-back (ends legs) e (leg-side legs (ends legs + (2 * e + 1))) (angle-side legs) (back-side legs) (omega arith)
 
   pub paired-leg : (e : ℕ) → paired e ≡ twin e
   unfolding paired

@@ -3,11 +3,11 @@ use mathlib.Core.Path.{_≡_, refl, sym, ap, subst, _∙_}
 use mathlib.Core.Logic.{⊎-elim}
 use mathlib.Core.Bool.{Bool, true, false, cond}
 use mathlib.Core.List.{List}
-use Prim.Native.Nat.{ℕ, _+_, _-_, _*_, _/_, _%_, _≤_, _<_}
+use Prim.Native.Nat.{ℕ, _+_, _*_, _/_, _%_, _≤_, _<_}
 use native.Mathlib.Omega.{arith}
 use lib.Dec.{eqb}
 use lib.ListN.{length}
-use Rattle.std.proofs.shelf.Tests.{cases-lt, cases-eq, cond-true, cond-false, cond-both, lt-ltb, le-ltb, eq-eqb, ne-eqb}
+use Rattle.std.proofs.shelf.Tests.{cases-lt, cases-eq, cond-true, cond-false, cond-both, lt-ltb, eq-eqb, ne-eqb}
 use Rattle.price.specs.Laws.{Ops, Laws}
 use Rattle.survey.specs.declared.leg.Leg.{Leg}
 use Rattle.survey.specs.Counting.{count}
@@ -24,7 +24,7 @@ use Rattle.shape.specs.Units.{crossing-room, shape-units}
 use Rattle.shape.specs.Statements.{Holds-network, Holds-demands, Shape-flows}
 use Rattle.shape.proofs.Splits.{count-sum, term-le}
 use Rattle.shape.proofs.Places.{face-of, switch-of}
-use Rattle.shape.proofs.Listed.{cond-second, cond-third, each-side}
+use Rattle.shape.proofs.Listed.{at-angle, at-back, each-side}
 use Rattle.shape.proofs.AtNodes.{Angled, comes, leaves, twin-first, twin-second, comes-face, leaves-face, comes-switch, leaves-switch}
 use Rattle.shape.proofs.Halves.{Halved, halved-even, halved-same, in-units}
 use Rattle.shape.proofs.Prices.{times-le, price-is}
@@ -35,15 +35,17 @@ cond-le true x y h = omega arith
 cond-le false x y h = h
 
 module _ (legs : List Leg) (z : Shape) where
+  -- what a shape sends over a leg before it is seen which way
+  leg-units : ℕ → ℕ
+  leg-units s = cond (eqb (face legs s) (face legs (twin s))) 0 (cond (outgoing s) (z .right (s / 2) / 2) (z .left (s / 2) / 2))
+
   unit-angle : (e : ℕ) → shape-units legs z (ends legs + 2 * e) ≡ cond (z .large e) 1 0
-  unit-angle e =
-      let h : (ends legs + 2 * e - ends legs) / 2 ≡ e = omega arith in
-      cond-second _ _ _ _ _ (le-ltb (ends legs + 2 * e) (ends legs) (omega arith)) (eq-eqb ((ends legs + 2 * e) % 2) 0 (omega arith)) ∙ ap (λ (k : ℕ). cond (z .large k) 1 0) h
+  unfolding leg-units
+  unit-angle e = at-angle (ends legs) e (leg-units (ends legs + 2 * e)) (λ k. cond (z .large k) 1 0) (λ k. 0) (omega arith)
 
   unit-back : (e : ℕ) → shape-units legs z (ends legs + (2 * e + 1)) ≡ 0
-  unit-back e =
-      let odd : (ends legs + (2 * e + 1)) % 2 ≡ 0 → ⊥ = λ q. omega arith in
-      cond-third _ _ _ _ _ (le-ltb (ends legs + (2 * e + 1)) (ends legs) (omega arith)) (ne-eqb ((ends legs + (2 * e + 1)) % 2) 0 odd)
+  unfolding leg-units
+  unit-back e = at-back (ends legs) e (leg-units (ends legs + (2 * e + 1))) (λ k. cond (z .large k) 1 0) (λ k. 0) (omega arith)
 
   unit-leg : (e : ℕ) → e < ends legs → shape-units legs z e ≡ cond (eqb (face legs e) (face legs (twin e))) 0 (cond (outgoing e) (z .right (e / 2) / 2) (z .left (e / 2) / 2))
   unit-leg e l = cond-true _ _ _ (lt-ltb e (ends legs) l)
