@@ -8,7 +8,7 @@ pub struct Numbers<'a> {
 }
 
 impl<'a> Numbers<'a> {
-    pub fn new(bytes: &'a [u8]) -> Numbers<'a> {
+    pub(crate) fn new(bytes: &'a [u8]) -> Numbers<'a> {
         Numbers { bytes, at: 0 }
     }
 
@@ -24,7 +24,7 @@ impl<'a> Numbers<'a> {
     }
 
     /// The next number, 0 past the last one.
-    pub fn next(&mut self) -> usize {
+    pub(crate) fn next(&mut self) -> usize {
         let mut value = 0usize;
         let mut begun = false;
         for _ in self.at..self.bytes.len() {
@@ -45,7 +45,7 @@ impl<'a> Numbers<'a> {
     }
 
     /// The next number where it is below 65,536, else 65,535.
-    pub fn next_small(&mut self) -> u32 {
+    pub(crate) fn next_small(&mut self) -> u32 {
         self.next().min(65535) as u32
     }
 }
