@@ -1,6 +1,8 @@
 // Worked caves: what planning them answers, and what the plans tell.
 #[cfg(test)]
 mod tests {
+    use journal::JournalSurvey;
+    use journal::SurveyJournal;
     use plan::planning::plan;
     use plan::plans::Plan;
     use plan::turning::turn;
@@ -8,6 +10,7 @@ mod tests {
     use refusal::Refusal;
     use std::test::*;
     use survey::Survey;
+    use survey::leg::Change;
     use survey::leg::Leg;
     use table::SurveyTable;
     use table::TableSurvey;
@@ -100,6 +103,18 @@ mod tests {
         check_eq(held.stations(), 257)?;
         check_eq(held.faces(), 1)?;
         check_eq(held.demand(511), Some(2))
+    }
+
+    #[test]
+    fn a_journal_of_257_legs_is_refused() -> Result<(), Fail> {
+        let mut entries = [Change::Strike { start: 0, end: 0 }; 257];
+        let mut journal = SurveyJournal::new(&mut entries);
+        for i in 1..258u32 {
+            check_eq(told(journal.enter(leg(i, i + 1, 0))), (0, 0))?;
+        }
+        let mut held = Plan::new();
+        check_eq(told(plan(&journal, &mut held, 0, 0)), (10, 257))?;
+        check_eq(held.count(), 1)
     }
 
     #[test]
