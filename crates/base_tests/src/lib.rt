@@ -1,4 +1,5 @@
 // Examples, worked by hand, that the vector, the survey table and the reader must follow.
+#![tactic(auto)]
 
 #[cfg(test)]
 mod tests {

@@ -1,4 +1,6 @@
 // Tables over plain numbers: the cycles of a permutation, and tallies by key.
+#![tactic(auto)]
+
 ghost use Rattle.std.specs.Prelude.{◌≡◌, ℕ, ◌+◌, ◌^◌, ◌<◌, ◌≤◌, length, slice_index, slice_set};
 ghost use Rattle.embedding.specs.Laws.{Permutes};
 ghost use Rattle.embedding.specs.Tables.{Holds};

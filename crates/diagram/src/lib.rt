@@ -1,4 +1,6 @@
 // The whole promise in one call: any list of calls to a survey, then a drawing of the plan that they leave.
+#![tactic(auto)]
+
 ghost use Rattle.std.specs.Prelude.{◌≡◌, length};
 ghost use Rattle.plan.specs.States.{plan_state};
 ghost use Rattle.transcript.specs.Runs.{Sent, run_plan};

@@ -1,4 +1,6 @@
 // Directions round the stations: which are sources, which are sinks, and which are not bimodal.
+#![tactic(auto)]
+
 ghost use Rattle.std.specs.Prelude.{◌≡◌, ◌≤◌, true, false, not, length, nat_eq, nat_le};
 ghost use Rattle.survey.specs.Ends.{ends, outgoing, station};
 ghost use Rattle.survey.specs.Model.{valid_legs};

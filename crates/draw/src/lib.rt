@@ -1,4 +1,6 @@
 // Drawings: plans with a least valid shape, and how they are drawn.
+#![tactic(auto)]
+
 pub mod drawing;
 pub mod drawings;
 mod filling;

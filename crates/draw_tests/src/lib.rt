@@ -1,4 +1,5 @@
 // Small caves, drawn and worked by hand.
+#![tactic(auto)]
 
 #[cfg(test)]
 mod tests {

@@ -1,4 +1,6 @@
 // The mathematics of least flows, at any kind of price: each function's contract is a theorem.
+#![tactic(auto)]
+
 ghost use Rattle.duality.specs.Statements.{Exchange, Least, Impossible};
 
 use price::Price;

@@ -1,4 +1,6 @@
 // The embedding of a cave in the plane: ends in rotation round their stations, and the faces between them.
+#![tactic(auto)]
+
 ghost use Rattle.embedding.specs.Laws.{EmbeddingStands};
 
 /// For every list that a survey can hold: rotations permute the ends of each station, face walks close and part the

@@ -1,4 +1,6 @@
 // Faces of an embedding as tables: the face of each end, and the demand of each face.
+#![tactic(auto)]
+
 ghost use Rattle.std.specs.Prelude.{◌≡◌, ◌<◌, ◌≤◌, true, false, length, pos, ◌+ℤ◌, ◌-ℤ◌, if◌then◌else◌, ◌==◌, slice_index, slice_index_or};
 ghost use Rattle.survey.specs.Ends.{ends};
 ghost use Rattle.survey.specs.Model.{valid_legs};

@@ -1,4 +1,6 @@
 // Reads a survey text from standard input, draws the cave, and prints the summary of the drawing or a refusal.
+#![tactic(auto)]
+
 mod explain;
 
 use diagram::run;

@@ -1,4 +1,6 @@
 // Solves the networks on standard input at both kinds of price, and compares with the prices given there.
+#![tactic(auto)]
+
 ghost use Rattle.std.specs.Prelude.{◌≡◌, ◌%◌, ◌<◌, ◌≤◌, length, slice_index};
 ghost use Rattle.search.specs.Sides.{Proper};
 ghost use Rattle.flow_vectors.specs.Networks.{side_from_lem};

@@ -1,4 +1,6 @@
 // The survey journal: accepted changes in lent entries, played again for each call.
+#![tactic(auto)]
+
 ghost use Rattle.std.specs.Prelude.{◌≡◌, true, [], ◌∷◌, ◌≤◌, length, take};
 ghost use Rattle.refusal.specs.Answers.{told, accepted};
 ghost use Rattle.survey.specs.declared.leg.Change.TheVariants.{Enter, Strike, Amend};

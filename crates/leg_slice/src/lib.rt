@@ -1,4 +1,6 @@
 // Ranges of legs struck and amended in place, in the front of a slice.
+#![tactic(auto)]
+
 ghost use Rattle.std.specs.Prelude.{◌≡◌, ◌-◌, ◌≤◌, map, length, take};
 ghost use Rattle.survey.specs.Model.{struck, amended, with_attributes};
 

@@ -1,4 +1,6 @@
 // The network of a plan as tables: its sides, and what its nodes want and give.
+#![tactic(auto)]
+
 ghost use Rattle.std.specs.Prelude.{◌≡◌, ◌<◌, ◌≤◌, true, length};
 ghost use Rattle.survey.specs.Ends.{ends};
 ghost use Rattle.survey.specs.Model.{valid_legs};

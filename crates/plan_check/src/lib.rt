@@ -1,4 +1,6 @@
 // The checks of a plan, in the order in which their causes are met.
+#![tactic(auto)]
+
 ghost use Rattle.std.specs.Prelude.{◌≡◌, ◌<◌, ◌≤◌, true, length};
 ghost use Rattle.refusal.specs.Answers.{told};
 ghost use Rattle.survey.specs.Ends.{ends};

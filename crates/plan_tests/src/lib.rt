@@ -1,4 +1,6 @@
 // Worked caves: what planning them answers, and what the plans tell.
+#![tactic(auto)]
+
 #[cfg(test)]
 mod tests {
     use journal::SurveyJournal;

@@ -1,4 +1,6 @@
 // Plans the caves of standard input and compares each answer with the one that stands after it.
+#![tactic(auto)]
+
 mod numbers;
 
 use numbers::Numbers;

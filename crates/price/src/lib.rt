@@ -1,4 +1,6 @@
 // Prices of any kind, and tariffs that tell the price of a bend.
+#![tactic(auto)]
+
 ghost use Rattle.std.specs.Prelude.{◌≡◌, ℕ, ◌+◌, ◌^◌, ◌≤◌, true, ◌+ℤ◌, unsigned_abs};
 ghost use Rattle.price.specs.Laws.{Ops, Laws};
 ghost use Rattle.price.specs.Amounts.{plain_ops, ranked_ops};

@@ -1,4 +1,6 @@
 // The one table of refusals: every call of the library refuses with one of these causes.
+#![tactic(auto)]
+
 ghost use Rattle.std.specs.Prelude.{◌≡◌};
 ghost use Rattle.refusal.specs.Answers.{number_of, value_of};
 

@@ -1,4 +1,6 @@
 // Accepted changes played again into a list of legs.
+#![tactic(auto)]
+
 ghost use Rattle.std.specs.Prelude.{◌≡◌, ◌+◌, ◌<◌, ◌≤◌, true, length, take};
 ghost use Rattle.survey.specs.Model.{strike_legs, amend_legs};
 ghost use Rattle.replay.specs.Replay.{changed, replayed};

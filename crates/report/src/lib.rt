@@ -1,4 +1,6 @@
 // The summary of a drawing and the refusal line, written into a supplied buffer.
+#![tactic(auto)]
+
 ghost use Rattle.std.specs.Prelude.{◌≡◌, ◌+◌, ◌^◌, ◌<◌, ◌≤◌, length, decimal};
 ghost use Rattle.report.specs.Output.{put, summary_text, refusal_text, write_answer, written, told_bytes};
 ghost use Rattle.report.specs.Summaries.{drawing_text};

@@ -1,4 +1,6 @@
 // Rotations: for each end of a list of legs, the one that follows it clockwise round its station.
+#![tactic(auto)]
+
 ghost use Rattle.std.specs.Prelude.{◌≡◌, ◌<◌, ◌≤◌, true, length};
 ghost use Rattle.survey.specs.Ends.{ends, station, stations as stations_of};
 ghost use Rattle.survey.specs.Model.{valid_legs};

@@ -1,6 +1,8 @@
 // Sends calls from standard input through a stack of views to a journal and to a table, and compares the answers,
 // and the legs that are left below the views, with those expected. The input is made by scripts/make_run_vectors.py,
 // which says what its numbers mean.
+#![tactic(auto)]
+
 ghost use Rattle.std.specs.Prelude.{◌≡◌, min, slice_index};
 ghost use Rattle.refusal.specs.Answers.{told_by};
 ghost use Rattle.survey.specs.Model.{leg_told};

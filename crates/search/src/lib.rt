@@ -1,4 +1,6 @@
 // Shortest-path search over lent labels, at any kind of price.
+#![tactic(auto)]
+
 ghost use Rattle.std.specs.Prelude.{◌≡◌, ℕ, ◌+◌, ◌^◌, ◌<◌, ◌≤◌, true, false, length, take, slice_set};
 ghost use Rattle.slice_vec.specs.Places.{at_item};
 ghost use Rattle.search.specs.Labels.{first_of, blank, label_at, below, improves, tried, Lower, Roots, Sized, Fresh};

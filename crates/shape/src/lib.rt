@@ -1,4 +1,6 @@
 // Shapes and flows: a valid shape of a plan is a flow of its network, and the other way round.
+#![tactic(auto)]
+
 ghost use Rattle.shape.specs.Statements.{ShapesAreFlows};
 
 use price::Price;

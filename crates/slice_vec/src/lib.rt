@@ -1,4 +1,6 @@
 // A vector of fixed capacity over a lent slice, written once for every kind of record.
+#![tactic(auto)]
+
 ghost use Rattle.std.specs.Prelude.{◌≡◌, ◌<◌, length, take, slice_index_or};
 ghost use Rattle.refusal.specs.Answers.{told};
 ghost use Rattle.slice_vec.specs.Places.{item_read, append_answer, append_used, append_places, at_answer, at_item, replace_places};

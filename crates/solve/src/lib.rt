@@ -1,4 +1,6 @@
 // A least flow that meets the demands, by cheapest chains, at any tariff.
+#![tactic(auto)]
+
 ghost use Rattle.std.specs.Prelude.{◌≡◌, ℕ, ◌%◌, ◌^◌, ◌<◌, ◌≤◌, true, false, ◌⊎◌, length, take};
 ghost use Rattle.duality.specs.Flows.{Fits};
 ghost use Rattle.search.specs.Labels.{label_at, reached, Sized};

@@ -1,4 +1,6 @@
 // Surveys: a list of legs that can be entered, struck, amended and asked about, by whatever means it is kept.
+#![tactic(auto)]
+
 ghost use Rattle.std.specs.Prelude.{◌≡◌, Bool, true, List, length, ◌≢◌, refl};
 ghost use Rattle.std.proofs.Common.{◌∙◌};
 ghost use Rattle.refusal.specs.Answers.{told, accepted};

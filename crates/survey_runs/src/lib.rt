@@ -1,4 +1,6 @@
 // Whole runs on a new journal and on a new table, seen through a stack of the three views.
+#![tactic(auto)]
+
 ghost use Rattle.std.specs.Prelude.{◌≡◌, ◌%◌, [], length};
 ghost use Rattle.table.specs.Tables.{table_legs};
 ghost use Rattle.replay.specs.Entries.{written};

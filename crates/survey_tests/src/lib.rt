@@ -1,5 +1,7 @@
 // Worked examples of surveys: bearings at the edge of their range through every view, the journal's last free
 // entry, and ranges at the end of the list.
+#![tactic(auto)]
+
 ghost use Rattle.std.specs.Prelude.{◌≡◌};
 ghost use Rattle.refusal.specs.Answers.{told as told_of};
 ghost use Rattle.survey.specs.Model.{query_answer};

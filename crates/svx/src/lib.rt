@@ -1,4 +1,6 @@
 // The survey text, read into any survey.
+#![tactic(auto)]
+
 ghost use Rattle.std.specs.Prelude.{◌≡◌, ◌+◌, ◌^◌, ◌<◌, length};
 ghost use Rattle.svx_line.specs.Spans.{fields};
 ghost use Rattle.svx_line.specs.Tokens.{span_of};

@@ -1,4 +1,6 @@
 // Bytes and fields of a survey text.
+#![tactic(auto)]
+
 ghost use Rattle.std.specs.Prelude.{◌≡◌, ◌^◌, ◌<◌, ◌≤◌, true, length};
 ghost use Rattle.svx_fields.specs.Bytes.{class_of, stops_at, before};
 ghost use Rattle.svx_fields.specs.Fields.{digit, all_digits, number as number_of, station_field, some_digits, fraction as fraction_of, amount as amount_of, tenths as tenths_of, compass_field, after_sign, reading_field};

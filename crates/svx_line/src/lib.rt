@@ -1,4 +1,6 @@
 // A line of a survey text: its tokens, its fields and what it means.
+#![tactic(auto)]
+
 pub mod lexer;
 pub mod line;
 pub mod offer;

@@ -1,4 +1,6 @@
 // The survey table: at most 256 legs in a fixed table.
+#![tactic(auto)]
+
 ghost use Rattle.std.specs.Prelude.{◌≡◌, ◌≤◌, true, [], length, nat_lt};
 ghost use Rattle.table.specs.Tables.{table_legs};
 

@@ -1,4 +1,6 @@
 // Transcripts: any list of calls sent to any survey and its plan, with what it allowed and answered at each.
+#![tactic(auto)]
+
 ghost use Rattle.std.specs.Prelude.{◌≡◌, [], slice_index_or};
 ghost use Rattle.refusal.specs.Answers.{told_by};
 ghost use Rattle.survey.specs.Changes.{changes};

@@ -1,4 +1,6 @@
 // Views: any survey seen with its bearings turned, its legs reversed or mirrored, in any stack.
+#![tactic(auto)]
+
 ghost use Rattle.std.specs.Prelude.{◌≡◌, map, length, ◌≢◌, refl};
 ghost use Rattle.std.proofs.Common.{◌∙◌};
 ghost use Rattle.refusal.specs.Answers.{told, accepted};
