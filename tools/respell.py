@@ -23,6 +23,9 @@ RUST_NAME = re.compile(r"\b[A-Za-z][A-Za-z0-9]*(?:_[A-Za-z0-9]+)+\b")
 ANSWERS = ("Answers.antt", "Invariants.antt", "Proof.antt")
 # names that Rattle makes of a type parameter and its associated type
 MADE = {"T-Price"}
+# what Rattle calls kinds of goals now
+PLACES = {f"overflow-{w}": f"overflow_{w}" for w in ("add", "sub", "mul", "cast", "neg", "shl")}
+PLACES |= {"invariant-of": "invariant_of", "offset-bounds": "offset_bounds", "slice-bounds": "slice_bounds"}
 # a definition that would have the name of the function whose result it tells
 CHOSEN = {"side-from": "side_from_lem"}
 
@@ -77,6 +80,8 @@ class Repository:
         for m in USE.finditer(code):
             steps = m[1].split(".")
             mine = steps[0] == "Rattle" and steps[1] in self.crates
+            if mine and steps[-1] in ("Goals", "Given"):
+                continue
             for item in m[2].split(","):
                 name, _, other = (s.strip() for s in item.strip().partition(" as "))
                 if mine:
@@ -106,6 +111,9 @@ class Repository:
 
     def turn_made(self, token, rust):
         """A name that Rattle makes: its parts that are names of src/ get underscores."""
+        for old, new in PLACES.items():
+            if token.startswith(old + "-"):
+                return new + "-" + self.turn_made(token[len(old) + 1 :], rust)
         if "+" in token:
             return "+".join(self.turn_made(t, rust) for t in token.split("+"))
         parts, out, i = token.split("-"), [], 0

@@ -4,7 +4,7 @@ use Rattle.embedding.specs.Tables.{Holds}
 use Rattle.cycles.specs.Cycles.{tallied}
 use Rattle.cycles.proofs.Tallying.{tally_yes, tally_no, tally_le}
 use Rattle.cycles.proofs.tally.Goals as goal
-use Rattle.cycles.proofs.tally.Goals.{then_chosen_k, else_chosen_k}
+use Rattle.cycles.proofs.tally.Goals.{then-chosen-k, else-chosen-k}
 
 pub count_one-requires : goal.count_one-requires
 count_one-requires c =
@@ -20,6 +20,6 @@ loop-k-preserved c =
     let m = length c.args.tallies.now in
     let h : get_or keys k 0 < length c.loop-k.tallies = let i = c.requires.inside k (omega arith) in omega arith in
     elim c.if-chosen-k.branch [
-      | then_chosen_k w ↦ subst (λ (xs : List ℕ). Holds 0 (tallied keys chosen (k + 1)) xs m) (sym (w.tallies-is ∙ w.count_one.ensures)) (tally_yes keys chosen c.loop-k.tallies k m c.loop-k.invariant w.if-chosen-k.true h)
-      | else_chosen_k w ↦ subst (λ (xs : List ℕ). Holds 0 (tallied keys chosen (k + 1)) xs m) (sym w.tallies-is) (tally_no keys chosen c.loop-k.tallies k m c.loop-k.invariant w.if-chosen-k.false)
+      | then-chosen-k w ↦ subst (λ (xs : List ℕ). Holds 0 (tallied keys chosen (k + 1)) xs m) (sym (w.tallies-is ∙ w.count_one.ensures)) (tally_yes keys chosen c.loop-k.tallies k m c.loop-k.invariant w.if-chosen-k.true h)
+      | else-chosen-k w ↦ subst (λ (xs : List ℕ). Holds 0 (tallied keys chosen (k + 1)) xs m) (sym w.tallies-is) (tally_no keys chosen c.loop-k.tallies k m c.loop-k.invariant w.if-chosen-k.false)
     ]

@@ -11,9 +11,9 @@ pub returns-in-Ok : goal.returns-in-Ok
 returns-in-Ok c =
     let r = c.args in
     let xs = r.legs.now in
-    let a = (amending r.count true r.start r.end r.x c.in_Ok.ensures).1 in
+    let a = (amending r.count true r.start r.end r.x c.in-Ok.ensures).1 in
     let e : take r.count c.amend.new.legs ≡ amended (take r.count xs) r.start r.end r.x =
     ap (take r.count) c.amend.ensures ∙ front_amended xs r.start r.end r.count r.x a.ordered a.inside (omega arith) in
     let n : length (take r.count xs) ≡ r.count = length-take-le r.count xs (omega arith) in
-    let d : accepted ≡ amend_answer (length (take r.count xs)) true r.start r.end r.x = rw n c.in_Ok.ensures in
+    let d : accepted ≡ amend_answer (length (take r.count xs)) true r.start r.end r.x = rw n c.in-Ok.ensures in
     e ∙ passes _ _ _ d

@@ -10,7 +10,7 @@ pub returns-in-Ok : goal.returns-in-Ok
 returns-in-Ok c =
     let r = c.args in
     let xs = r.legs.now in
-    let s = striking r.count true r.start r.end c.in_Ok.ensures in
+    let s = striking r.count true r.start r.end c.in-Ok.ensures in
     let n : length (take r.count xs) ≡ r.count = length-take-le r.count xs (omega arith) in
-    let d : accepted ≡ strike_answer (length (take r.count xs)) true r.start r.end = rw n c.in_Ok.ensures in
+    let d : accepted ≡ strike_answer (length (take r.count xs)) true r.start r.end = rw n c.in-Ok.ensures in
     record { within = omega arith; list = c.strike.ensures ∙ passes _ _ _ d }

@@ -18,8 +18,8 @@ put_number-last-requires t c = let e = more_digits c.args.n c.if-n-lt10.false c.
 pub bounds-out-last : goal.bounds-out-last
 bounds-out-last t c = let e = more_digits c.args.n c.if-n-lt10.false c.ranges.n.fits in omega arith
 
-pub overflow-add-result-2 : goal.overflow-add-result-2
-overflow-add-result-2 t c = let e = more_digits c.args.n c.if-n-lt10.false c.ranges.n.fits in omega arith
+pub overflow_add-result-2 : goal.overflow_add-result-2
+overflow_add-result-2 t c = let e = more_digits c.args.n c.if-n-lt10.false c.ranges.n.fits in omega arith
 
 pub returns : goal.returns
 returns t c =

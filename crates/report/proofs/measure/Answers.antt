@@ -6,11 +6,11 @@ use Rattle.report.specs.Pieces.{pieces_text}
 use Rattle.report.proofs.Lengths.{growth}
 use Rattle.report.proofs.measure.Goals as goal
 
-pub overflow-add-total : goal.overflow-add-total
-overflow-add-total c = let g = growth c.args.pieces.now c.loop-i.i c.loop-i-test.true in omega (arith, c.width.ensures.is)
+pub overflow_add-total : goal.overflow_add-total
+overflow_add-total c = let g = growth c.args.pieces.now c.loop-i.i c.loop-i-test.true in omega (arith, c.width.ensures.is)
 
-pub overflow-add-total-in-loop-i : goal.overflow-add-total-in-loop-i
-overflow-add-total-in-loop-i c = let g = growth c.args.pieces.now c.loop-i.i c.loop-i-test.true in omega (arith, c.width.ensures.is, c.loop-i.invariant)
+pub overflow_add-total-in-loop-i : goal.overflow_add-total-in-loop-i
+overflow_add-total-in-loop-i c = let g = growth c.args.pieces.now c.loop-i.i c.loop-i-test.true in omega (arith, c.width.ensures.is, c.loop-i.invariant)
 
 pub loop-i-preserved : goal.loop-i-preserved
 loop-i-preserved c = let g = growth c.args.pieces.now c.loop-i.i c.loop-i-test.true in omega (arith, c.width.ensures.is, c.loop-i.invariant)

@@ -7,7 +7,7 @@ use Rattle.embedding.proofs.Distinct.{distinct}
 use Rattle.rotation.specs.Chains.{end_before}
 use Rattle.rotation.proofs.Passed.{Nearest, nearest_none, nearest_takes, nearest_keeps, rest_falls, nearest_all}
 use Rattle.rotation.proofs.nearest.Goals as goal
-use Rattle.rotation.proofs.nearest.Goals.{then_gap_least, else_gap_least}
+use Rattle.rotation.proofs.nearest.Goals.{then-gap-least, else-gap-least}
 
 as_is : (legs : List Leg) (e rest b b' l l' : ℕ) → b' ≡ b → l' ≡ l → Nearest legs e rest b l → Nearest legs e rest b' l'
 as_is legs e rest b b' l l' p q w = rw (p, q) w
@@ -26,8 +26,8 @@ loop-rest-preserved c =
     let q = link c in
     let g : c.bearing_gap-gap.result ≡ gap (bearing legs c.args.e) (bearing legs (rest - 1)) = c.bearing_gap-gap.ensures ∙ (λ i. gap (c.end_bearing-from.ensures i) (c.end_bearing.ensures i)) in
     elim c.if-gap-least.branch [
-      | then_gap_least w ↦ as_is _ _ _ _ _ _ _ w.best-is w.least-is (nearest_takes legs c.requires.valid c.args.e c.requires.inside rest c.loop-rest.best c.loop-rest.least _ c.loop-rest.invariant c.loop-rest-test.true q c.bearing_gap-gap.result g w.if-gap-least.true)
-      | else_gap_least w ↦ as_is _ _ _ _ _ _ _ w.best-is w.least-is (nearest_keeps legs c.requires.valid c.args.e c.requires.inside rest c.loop-rest.best c.loop-rest.least _ c.loop-rest.invariant c.loop-rest-test.true q c.bearing_gap-gap.result g w.if-gap-least.false)
+      | then-gap-least w ↦ as_is _ _ _ _ _ _ _ w.best-is w.least-is (nearest_takes legs c.requires.valid c.args.e c.requires.inside rest c.loop-rest.best c.loop-rest.least _ c.loop-rest.invariant c.loop-rest-test.true q c.bearing_gap-gap.result g w.if-gap-least.true)
+      | else-gap-least w ↦ as_is _ _ _ _ _ _ _ w.best-is w.least-is (nearest_keeps legs c.requires.valid c.args.e c.requires.inside rest c.loop-rest.best c.loop-rest.least _ c.loop-rest.invariant c.loop-rest-test.true q c.bearing_gap-gap.result g w.if-gap-least.false)
     ]
 
 pub loop-rest-smaller : goal.loop-rest-smaller

@@ -8,7 +8,7 @@ use Rattle.search.specs.Sides.{network, residual}
 use Rattle.search.proofs.Sweep.{start, sized_sweep}
 use Rattle.search.proofs.Residual.{sound, all_fit, or_none}
 use Rattle.search.proofs.round.Goals as goal
-use Rattle.search.proofs.round.Goals.{then_try_side, else_try_side}
+use Rattle.search.proofs.round.Goals.{then-try_side, else-try_side}
 
 pub try_side-requires : goal.try_side-requires
 try_side-requires g c =
@@ -42,8 +42,8 @@ loop-s-preserved g c =
     let s0 : State g.row.T-Price.Denot = start c.args.labels.now.places.now in
     let flag : c.if-try_side.changed ≡ (c.loop-s.changed || better o before (mv c.loop-s.s)) =
     elim c.if-try_side.branch [
-      | then_try_side w ↦ w.changed-is ∙ sym (or_right _ _ (sym c.try_side.ensures.told ∙ w.if-try_side.true))
-      | else_try_side w ↦ w.changed-is ∙ sym (or_none _ _ (sym c.try_side.ensures.told ∙ w.if-try_side.false))
+      | then-try_side w ↦ w.changed-is ∙ sym (or_right _ _ (sym c.try_side.ensures.told ∙ w.if-try_side.true))
+      | else-try_side w ↦ w.changed-is ∙ sym (or_none _ _ (sym c.try_side.ensures.told ∙ w.if-try_side.false))
     ] in
     let one : ◌≡◌ {A = State g.row.T-Price.Denot} (record { changed = c.if-try_side.changed; labels = c.try_side.new.labels.places.now }) (step o (record { changed = c.loop-s.changed; labels = before }) (mv c.loop-s.s)) = λ i. record { changed = flag i; labels = c.try_side.ensures.left i } in (
       one ∙ ap (λ (x : State g.row.T-Price.Denot). step o x (mv c.loop-s.s)) c.loop-s.invariant.0 ∙ ap (swept o s0 mv) (sym (add-one c.loop-s.s)),

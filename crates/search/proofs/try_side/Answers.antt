@@ -6,16 +6,16 @@ use Rattle.search.specs.Sides.{side_at, network, residual}
 use Rattle.search.proofs.Twins.{twin_by}
 use Rattle.search.proofs.Residual.{twin_within, cost_small, cost_is, open_move, move_none, self_quiet, self_moved}
 use Rattle.search.proofs.try_side.Goals as goal
-use Rattle.search.proofs.try_side.Goals.{else_came_eq0_via_then_came_eq0+else_flow_s, else_came_eq0_via_else_came_eq0}
+use Rattle.search.proofs.try_side.Goals.{else-came-eq0-via-then-came-eq0+else-flow-s, else-came-eq0-via-else-came-eq0}
 
-pub offset-bounds-sides-back : goal.offset-bounds-sides-back
-offset-bounds-sides-back g c = let t = twin_within c.args.nodes c.args.sides.now c.requires.proper c.args.s c.twin-back.result c.requires.inside.0 (twin_by c.args.s c.twin-back.result c.twin-back.ensures) in omega (arith)
+pub offset_bounds-sides-back : goal.offset_bounds-sides-back
+offset_bounds-sides-back g c = let t = twin_within c.args.nodes c.args.sides.now c.requires.proper c.args.s c.twin-back.result c.requires.inside.0 (twin_by c.args.s c.twin-back.result c.twin-back.ensures) in omega (arith)
 
 pub bounds-sides-back : goal.bounds-sides-back
 bounds-sides-back g c = let t = twin_within c.args.nodes c.args.sides.now c.requires.proper c.args.s c.twin-back.result c.requires.inside.0 (twin_by c.args.s c.twin-back.result c.twin-back.ensures) in omega (arith)
 
-pub offset-bounds-flow-back : goal.offset-bounds-flow-back
-offset-bounds-flow-back g c = let t = twin_within c.args.nodes c.args.sides.now c.requires.proper c.args.s c.twin-back.result c.requires.inside.0 (twin_by c.args.s c.twin-back.result c.twin-back.ensures) in omega (arith)
+pub offset_bounds-flow-back : goal.offset_bounds-flow-back
+offset_bounds-flow-back g c = let t = twin_within c.args.nodes c.args.sides.now c.requires.proper c.args.s c.twin-back.result c.requires.inside.0 (twin_by c.args.s c.twin-back.result c.twin-back.ensures) in omega (arith)
 
 pub bounds-flow-back : goal.bounds-flow-back
 bounds-flow-back g c = let t = twin_within c.args.nodes c.args.sides.now c.requires.proper c.args.s c.twin-back.result c.requires.inside.0 (twin_by c.args.s c.twin-back.result c.twin-back.ensures) in omega (arith, c.requires.inside.1)
@@ -59,8 +59,8 @@ returns g c =
     let f = units c.args.flow.now in
     let free : Open w f c.args.s =
     elim c.else-came-eq0.branch [
-      | else_came_eq0_via_then_came_eq0+else_flow_s x ↦ inr (omega (arith, x.if-flow-s.false))
-      | else_came_eq0_via_else_came_eq0 x ↦ inl (subst (λ z. 0 < f z) e (let ne = x.if-came-eq0.false in omega arith))
+      | else-came-eq0-via-then-came-eq0+else-flow-s x ↦ inr (omega (arith, x.if-flow-s.false))
+      | else-came-eq0-via-else-came-eq0 x ↦ inl (subst (λ z. 0 < f z) e (let ne = x.if-came-eq0.false in omega arith))
     ] in
     let cost : c.step_cost-cost.result ≡ cost_by o w c.args.s (f (twin c.args.s)) =
     c.step_cost-cost.ensures ∙ (λ i. cost_of o (c.fee.ensures.value i) (f (e i))) ∙ sym (cost_is o w c.args.s (f (twin c.args.s))) in

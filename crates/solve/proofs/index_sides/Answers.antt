@@ -10,7 +10,7 @@ use Rattle.search.specs.Sides.{side_at, Proper}
 use Rattle.search.proofs.Sweep.{at_set}
 use Rattle.solve.proofs.Held.{label_read}
 use Rattle.solve.proofs.index_sides.Goals as goal
-use Rattle.solve.proofs.index_sides.Goals.{then_usable+then_label_at_side, else_usable, else_usable_via_then_usable+else_label_at_side, else_usable_via_else_usable}
+use Rattle.solve.proofs.index_sides.Goals.{then-usable+then-label_at-side, else-usable, else-usable-via-then-usable+else-label_at-side, else-usable-via-else-usable}
 
 abbrev UsableAt : List Side → ℕ → Type 0
 UsableAt sides s = (0 < (side_at sides s).room) ⊎ (0 < (side_at sides (twin s)).room)
@@ -50,13 +50,13 @@ loop-s-preserved g c =
     let read : (r : Label g.row.P.Denot) → r ≡ first_of (blank g.P.Price.ops) (at_item v.places.now v.used (side_at sides s).node) → r.end ≡ end (side_at sides s).node =
     λ r e. ap (λ (m : Label g.row.P.Denot). m.end) (label_read g.P.Price.ops n v.used v.places.now (side_at sides s).node r (c.requires.proper.inside s lt) c.requires.labels.0 e) in
     elim c.if-usable.branch [
-      | then_usable+then_label_at_side w ↦
+      | then-usable+then-label_at-side w ↦
           subst (λ xs. Below sides end xs (s + 1)) (sym w.came_by-is)
           (written n sides c.requires.proper end c.loop-s.came_by s lt c.loop-s.invariant (omega (arith, c.loop-s.auto.came_by, c.requires.labels.2)) (c.usable.ensures.may w.if-usable.true) (sym (read w.label_at.result w.label_at.ensures) ∙ w.if-label_at-side.true))
-      | else_usable w ↦
+      | else-usable w ↦
           subst (λ xs. Below sides end xs (s + 1)) (sym w.came_by-is)
-          (passed n sides c.requires.proper end c.loop-s.came_by s lt c.loop-s.invariant (elim w.else_usable.branch [
-            | else_usable_via_then_usable+else_label_at_side x ↦ λ _ is. x.if-label_at-side.false (read x.label_at.result x.label_at.ensures ∙ is)
-            | else_usable_via_else_usable x ↦ λ may _. let z = c.usable.ensures.never x.if-usable.false in ⊎_elim (λ h. omega arith) (λ h. omega arith) may
+          (passed n sides c.requires.proper end c.loop-s.came_by s lt c.loop-s.invariant (elim w.else-usable.branch [
+            | else-usable-via-then-usable+else-label_at-side x ↦ λ _ is. x.if-label_at-side.false (read x.label_at.result x.label_at.ensures ∙ is)
+            | else-usable-via-else-usable x ↦ λ may _. let z = c.usable.ensures.never x.if-usable.false in ⊎_elim (λ h. omega arith) (λ h. omega arith) may
           ]))
     ]

@@ -9,7 +9,7 @@ use Rattle.search.proofs.Twins.{twin_by}
 use Rattle.search.proofs.Residual.{twin_within, cost_small, cost_is}
 use Rattle.solve.proofs.Held.{label_read}
 use Rattle.solve.proofs.is_tight.Goals as goal
-use Rattle.solve.proofs.is_tight.Goals.{else_came_eq0_via_then_came_eq0+else_flow_s, else_came_eq0_via_else_came_eq0}
+use Rattle.solve.proofs.is_tight.Goals.{else-came-eq0-via-then-came-eq0+else-flow-s, else-came-eq0-via-else-came-eq0}
 
 pub add-price-requires : goal.add-price-requires
 add-price-requires g c =
@@ -53,8 +53,8 @@ returns-then-at_most g c r =
       to = c.if-side-at.false;
       by = c.if-side-label.false ∙ ap (λ (m : Label g.row.T-Price.Denot). m.end) here;
       free = elim c.else-came-eq0.branch [
-        | else_came_eq0_via_then_came_eq0+else_flow_s y ↦ inr (omega (arith, y.if-flow-s.false))
-        | else_came_eq0_via_else_came_eq0 y ↦ inl (subst (λ z. 0 < f z) e (let ne = y.if-came-eq0.false in omega arith))
+        | else-came-eq0-via-then-came-eq0+else-flow-s y ↦ inr (omega (arith, y.if-flow-s.false))
+        | else-came-eq0-via-else-came-eq0 y ↦ inl (subst (λ z. 0 < f z) e (let ne = y.if-came-eq0.false in omega arith))
       ];
       held = ap (λ (m : Label g.row.T-Price.Denot). m.price) (sym here) ∙ same ∙ c.add-price.ensures ∙ (λ i. o.plus (there i).price (cost i)) ∙ ap (λ z. o.plus (label_at o (take n v.places.now) (side_at sides z).node).price (cost_by o w s (f (twin s)))) e;
     }

@@ -6,14 +6,14 @@ use Rattle.search.proofs.Twins.{twin_by, twin_inside}
 use Rattle.solve.specs.Chains.{added, taken}
 use Rattle.solve.proofs.push.Goals as goal
 
-pub offset-bounds-flow-back : goal.offset-bounds-flow-back
-offset-bounds-flow-back c = let t = twin_inside (length c.args.sides.now) c.args.s c.requires.pairs.0 c.requires.inside.0 in omega (arith, twin_by c.args.s c.twin-back.result c.twin-back.ensures, c.requires.pairs.1)
+pub offset_bounds-flow-back : goal.offset_bounds-flow-back
+offset_bounds-flow-back c = let t = twin_inside (length c.args.sides.now) c.args.s c.requires.pairs.0 c.requires.inside.0 in omega (arith, twin_by c.args.s c.twin-back.result c.twin-back.ensures, c.requires.pairs.1)
 
 pub bounds-flow-back : goal.bounds-flow-back
 bounds-flow-back c = let t = twin_inside (length c.args.sides.now) c.args.s c.requires.pairs.0 c.requires.inside.0 in omega (arith, twin_by c.args.s c.twin-back.result c.twin-back.ensures, c.requires.inside.1)
 
-pub offset-bounds-flow-back-then-flow-back-gt0 : goal.offset-bounds-flow-back-then-flow-back-gt0
-offset-bounds-flow-back-then-flow-back-gt0 c = let t = twin_inside (length c.args.sides.now) c.args.s c.requires.pairs.0 c.requires.inside.0 in omega (arith, twin_by c.args.s c.twin-back.result c.twin-back.ensures, c.requires.pairs.1)
+pub offset_bounds-flow-back-then-flow-back-gt0 : goal.offset_bounds-flow-back-then-flow-back-gt0
+offset_bounds-flow-back-then-flow-back-gt0 c = let t = twin_inside (length c.args.sides.now) c.args.s c.requires.pairs.0 c.requires.inside.0 in omega (arith, twin_by c.args.s c.twin-back.result c.twin-back.ensures, c.requires.pairs.1)
 
 pub bounds-flow-back-then-flow-back-gt0 : goal.bounds-flow-back-then-flow-back-gt0
 bounds-flow-back-then-flow-back-gt0 c = let t = twin_inside (length c.args.sides.now) c.args.s c.requires.pairs.0 c.requires.inside.0 in omega (arith, twin_by c.args.s c.twin-back.result c.twin-back.ensures, c.requires.inside.1)
@@ -35,8 +35,8 @@ returns-then-flow-back-gt0 c =
     let u = ap (units flow) e in omega arith)
     (λ z ne. get_or-set_other flow c.twin-back.result z x 0 (λ q. ne (q ∙ e)))
 
-pub overflow-add-flow : goal.overflow-add-flow
-overflow-add-flow c =
+pub overflow_add-flow : goal.overflow_add-flow
+overflow_add-flow c =
     let e = twin_by c.args.s c.twin-back.result c.twin-back.ensures in
     let flow = c.args.flow.now in
     let none : units flow (twin c.args.s) ≡ 0 = ap (units flow) (sym e) ∙ (let h = c.if-flow-back-gt0.false in omega arith) in

@@ -7,7 +7,7 @@ use Rattle.search.specs.Labels.{label_at, blank}
 use Rattle.search.specs.Networks.{units}
 use Rattle.search.proofs.Sweep.{at_set, front_at}
 use Rattle.solve.proofs.seed.Goals as goal
-use Rattle.solve.proofs.seed.Goals.{then_gives_i_gt0, else_gives_i_gt0}
+use Rattle.solve.proofs.seed.Goals.{then-gives-i-gt0, else-gives-i-gt0}
 
 pub loop-i-preserved : goal.loop-i-preserved
 loop-i-preserved g c =
@@ -17,8 +17,8 @@ loop-i-preserved g c =
     let new : Label g.row.P.Denot = record { price = c.zero.result; end = c.if-gives-i-gt0.end } in
     let end : c.if-gives-i-gt0.end ≡ cond (ltb 0 (units gives c.loop-i.i)) 65534 65535 =
     elim c.if-gives-i-gt0.branch [
-      | then_gives_i_gt0 w ↦ w.end-is ∙ sym (cond-true _ _ _ (lt-ltb 0 _ w.if-gives-i-gt0.true))
-      | else_gives_i_gt0 w ↦ w.end-is ∙ sym (cond-false _ _ _ (le-ltb 0 _ w.if-gives-i-gt0.false))
+      | then-gives-i-gt0 w ↦ w.end-is ∙ sym (cond-true _ _ _ (lt-ltb 0 _ w.if-gives-i-gt0.true))
+      | else-gives-i-gt0 w ↦ w.end-is ∙ sym (cond-false _ _ _ (le-ltb 0 _ w.if-gives-i-gt0.false))
     ] in
     let put = c.set_label.ensures.places in (
       λ k h. subst (λ (ls : List (Label g.row.P.Denot)). ((label_at o ls k).price ≡ o.zero) × ((label_at o ls k).end ≡ cond (ltb 0 (units gives k)) 65534 65535)) (sym put)

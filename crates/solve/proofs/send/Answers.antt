@@ -67,8 +67,8 @@ push-requires g c =
       free = tight.1.free;
     }
 
-pub offset-bounds-sides-twin : goal.offset-bounds-sides-twin
-offset-bounds-sides-twin g c =
+pub offset_bounds-sides-twin : goal.offset_bounds-sides-twin
+offset_bounds-sides-twin g c =
     let tight = open_side g c.args.tariff.now c.args.nodes c.args.sides.now c.requires.proper c.args.labels.now.used c.args.labels.now.places.now c.requires.labels.0 c.requires.labels.1 c.args.came_by.now c.args.flow.now c.loop.flow c.args.v c.loop.invariant.0 c.loop.at c.loop.counter c.loop.invariant.1 c.label_at.result c.label_at.ensures c.if-label_at.false in
     let b = twin_within c.args.nodes c.args.sides.now c.requires.proper (units c.args.came_by.now c.loop.at) c.twin.result tight.1.inside (twin_by (units c.args.came_by.now c.loop.at) c.twin.result c.twin.ensures) in
     omega arith

@@ -6,7 +6,7 @@ use Rattle.search.specs.Labels.{label_at, reached}
 use Rattle.search.specs.Networks.{units}
 use Rattle.solve.proofs.Held.{label_read}
 use Rattle.solve.proofs.taker.Goals as goal
-use Rattle.solve.proofs.taker.Goals.{else_wants_i_gt0_via_then_wants_i_gt0+else_label_at, else_wants_i_gt0_via_else_wants_i_gt0}
+use Rattle.solve.proofs.taker.Goals.{else-wants-i-gt0-via-then-wants-i-gt0+else-label_at, else-wants-i-gt0-via-else-wants-i-gt0}
 
 pub returns-then-label_at : goal.returns-then-label_at
 returns-then-label_at g c =
@@ -26,8 +26,8 @@ loop-i-preserved g c =
     let v = c.args.labels.now in
     below_more (λ k. reached (label_at g.P.Price.ops (take n v.places.now) k) ≡ true → units c.args.wants.now k ≡ 0) c.loop-i.i c.loop-i.invariant
     (λ r. elim c.else-wants-i-gt0.branch [
-      | else_wants_i_gt0_via_then_wants_i_gt0+else_label_at w ↦
+      | else-wants-i-gt0-via-then-wants-i-gt0+else-label_at w ↦
           let e = label_read g.P.Price.ops n v.used v.places.now c.loop-i.i w.label_at.result c.loop-i-test.true c.requires.0 w.label_at.ensures in
           absurd (both_ways _ (not_from_true _ (eq-eqb _ 65535 (ap (λ (m : Label g.row.P.Denot). m.end) (sym e) ∙ w.if-label_at.false))) r)
-      | else_wants_i_gt0_via_else_wants_i_gt0 w ↦ omega (arith, w.if-wants-i-gt0.false)
+      | else-wants-i-gt0-via-else-wants-i-gt0 w ↦ omega (arith, w.if-wants-i-gt0.false)
     ])

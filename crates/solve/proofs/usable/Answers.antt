@@ -5,8 +5,8 @@ use Rattle.search.proofs.Twins.{twin_by}
 use Rattle.search.proofs.Residual.{twin_within}
 use Rattle.solve.proofs.usable.Goals as goal
 
-pub offset-bounds-sides-twin : goal.offset-bounds-sides-twin
-offset-bounds-sides-twin c = let t = twin_within c.args.nodes c.args.sides.now c.requires.0 c.args.s c.twin.result c.requires.1 (twin_by c.args.s c.twin.result c.twin.ensures) in omega arith
+pub offset_bounds-sides-twin : goal.offset_bounds-sides-twin
+offset_bounds-sides-twin c = let t = twin_within c.args.nodes c.args.sides.now c.requires.0 c.args.s c.twin.result c.requires.1 (twin_by c.args.s c.twin.result c.twin.ensures) in omega arith
 
 pub bounds-sides-twin : goal.bounds-sides-twin
 bounds-sides-twin c = let t = twin_within c.args.nodes c.args.sides.now c.requires.0 c.args.s c.twin.result c.requires.1 (twin_by c.args.s c.twin.result c.twin.ensures) in omega arith

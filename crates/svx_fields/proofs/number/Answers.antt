@@ -5,14 +5,14 @@ use Rattle.svx_fields.specs.Fields.{number_after}
 use Rattle.svx_fields.proofs.Digits.{turn}
 use Rattle.svx_fields.proofs.number.Goals as goal
 
-pub overflow-mul-n : goal.overflow-mul-n
-overflow-mul-n c = let t = turn _ _ _ _ c.loop-b-test.true c.requires.0 c.loop-b.invariant.0 c.loop-b.invariant.1 c.loop-b.invariant.2 in omega arith
+pub overflow_mul-n : goal.overflow_mul-n
+overflow_mul-n c = let t = turn _ _ _ _ c.loop-b-test.true c.requires.0 c.loop-b.invariant.0 c.loop-b.invariant.1 c.loop-b.invariant.2 in omega arith
 
-pub overflow-sub-n : goal.overflow-sub-n
-overflow-sub-n c = (turn _ _ _ _ c.loop-b-test.true c.requires.0 c.loop-b.invariant.0 c.loop-b.invariant.1 c.loop-b.invariant.2).low
+pub overflow_sub-n : goal.overflow_sub-n
+overflow_sub-n c = (turn _ _ _ _ c.loop-b-test.true c.requires.0 c.loop-b.invariant.0 c.loop-b.invariant.1 c.loop-b.invariant.2).low
 
-pub overflow-add-n : goal.overflow-add-n
-overflow-add-n c = let t = turn _ _ _ _ c.loop-b-test.true c.requires.0 c.loop-b.invariant.0 c.loop-b.invariant.1 c.loop-b.invariant.2 in omega arith
+pub overflow_add-n : goal.overflow_add-n
+overflow_add-n c = let t = turn _ _ _ _ c.loop-b-test.true c.requires.0 c.loop-b.invariant.0 c.loop-b.invariant.1 c.loop-b.invariant.2 in omega arith
 
 pub loop-b-preserved : goal.loop-b-preserved
 loop-b-preserved c = let t = turn _ _ _ _ c.loop-b-test.true c.requires.0 c.loop-b.invariant.0 c.loop-b.invariant.1 c.loop-b.invariant.2 in (t.same, t.digits, t.below)

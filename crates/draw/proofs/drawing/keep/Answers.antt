@@ -68,8 +68,8 @@ price_bends-price-requires g c =
       bends = λ i b. bends_small (plan_legs p) c.count-count.result n (units c.args.flow.now) _ _ _ h (outer_face p) p.valid c.requires.least.valid i (omega arith);
     }
 
-pub invariant-of-drawing : goal.invariant-of-drawing
-invariant-of-drawing g c =
+pub invariant_of-drawing : goal.invariant_of-drawing
+invariant_of-drawing g c =
     let p = c.args.plan.now in
     let few = plan_few p in
     let n = c.count-count.ensures in

@@ -27,11 +27,11 @@ front_demands legs outer n wants gives q h = record {
   gives = λ v l. front_units gives n (nodes legs) v q l ∙ h.gives v l;
 }
 
-pub slice-bounds-wants-end : goal.slice-bounds-wants-end
-slice-bounds-wants-end g c = let f = few_nodes c.args.legs.now c.requires.planar in let n = c.fill_network-nodes.ensures.nodes in omega arith
+pub slice_bounds-wants-end : goal.slice_bounds-wants-end
+slice_bounds-wants-end g c = let f = few_nodes c.args.legs.now c.requires.planar in let n = c.fill_network-nodes.ensures.nodes in omega arith
 
-pub slice-bounds-gives-end : goal.slice-bounds-gives-end
-slice-bounds-gives-end g c = let f = few_nodes c.args.legs.now c.requires.planar in let n = c.fill_network-nodes.ensures.nodes in omega arith
+pub slice_bounds-gives-end : goal.slice_bounds-gives-end
+slice_bounds-gives-end g c = let f = few_nodes c.args.legs.now c.requires.planar in let n = c.fill_network-nodes.ensures.nodes in omega arith
 
 pub solve-requires : goal.solve-requires
 solve-requires g c =

@@ -12,4 +12,4 @@ pub write-requires : goal.write-requires
 write-requires c =
     let s = c.args.self.now in
     amend_allowed (journal_legs s) (has_free_entry s) c.args.start c.args.end c.args.attributes s.valid
-    (c.in_Ok.ensures ∙ ap (λ (n : ℕ). amend_answer n c.is_free.result c.args.start c.args.end c.args.attributes) c.count_legs.ensures ∙ ap (λ (may : Bool). amend_answer (length (journal_legs s)) may c.args.start c.args.end c.args.attributes) c.is_free.ensures)
+    (c.in-Ok.ensures ∙ ap (λ (n : ℕ). amend_answer n c.is_free.result c.args.start c.args.end c.args.attributes) c.count_legs.ensures ∙ ap (λ (may : Bool). amend_answer (length (journal_legs s)) may c.args.start c.args.end c.args.attributes) c.is_free.ensures)

@@ -4,4 +4,4 @@ use Rattle.journal.specs.Journals.{journal_legs, has_free_entry}
 use Rattle.journal.proofs.SurveyJournalSurvey.enter.Goals as goal
 
 pub write-requires : goal.write-requires
-write-requires c = let s = c.args.self.now in enter_allowed (journal_legs s) (has_free_entry s) c.args.leg s.valid c.in_Ok.ensures
+write-requires c = let s = c.args.self.now in enter_allowed (journal_legs s) (has_free_entry s) c.args.leg s.valid c.in-Ok.ensures

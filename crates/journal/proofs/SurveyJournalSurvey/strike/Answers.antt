@@ -12,4 +12,4 @@ pub write-requires : goal.write-requires
 write-requires c =
     let s = c.args.self.now in
     strike_allowed (journal_legs s) (has_free_entry s) c.args.start c.args.end s.valid
-    (c.in_Ok.ensures ∙ ap (λ (n : ℕ). strike_answer n c.is_free.result c.args.start c.args.end) c.count_legs.ensures ∙ ap (λ (may : Bool). strike_answer (length (journal_legs s)) may c.args.start c.args.end) c.is_free.ensures)
+    (c.in-Ok.ensures ∙ ap (λ (n : ℕ). strike_answer n c.is_free.result c.args.start c.args.end) c.count_legs.ensures ∙ ap (λ (may : Bool). strike_answer (length (journal_legs s)) may c.args.start c.args.end) c.is_free.ensures)

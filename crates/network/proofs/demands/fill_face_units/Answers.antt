@@ -11,7 +11,7 @@ use Rattle.shape.specs.Nodes.{names_face, above, beneath}
 use Rattle.shape.specs.Units.{plan_wants, plan_gives}
 use Rattle.network.proofs.Numbers.{wants_at, gives_at, demand_high, demand_low}
 use Rattle.network.proofs.demands.fill_face_units.Goals as goal
-use Rattle.network.proofs.demands.fill_face_units.Goals.{then_faces_e, else_faces_e}
+use Rattle.network.proofs.demands.fill_face_units.Goals.{then-faces-e, else-faces-e}
 
 pub above-requires : goal.above-requires
 above-requires c = record {
@@ -19,8 +19,8 @@ above-requires c = record {
   small = subst (λ (d : ℤ). le_z d (pos 1000) ≡ true) (sym (c.requires.demands c.loop-e.e c.loop-e-test.true)) (demand_high c.args.legs.now c.requires.few c.args.outer c.loop-e.e);
 }
 
-pub offset-bounds-wants-v : goal.offset-bounds-wants-v
-offset-bounds-wants-v c = let a = count_bound (names_face c.args.legs.now) c.loop-e.e in let q = c.loop-e.invariant.0 in search rules
+pub offset_bounds-wants-v : goal.offset_bounds-wants-v
+offset_bounds-wants-v c = let a = count_bound (names_face c.args.legs.now) c.loop-e.e in let q = c.loop-e.invariant.0 in search rules
 
 pub bounds-wants-v : goal.bounds-wants-v
 bounds-wants-v c = let a = count_bound (names_face c.args.legs.now) c.loop-e.e in let q = c.loop-e.invariant.0 in omega arith
@@ -31,14 +31,14 @@ beneath-requires c = record {
   small = subst (λ (d : ℤ). le_z (negsuc 999) d ≡ true) (sym (c.requires.demands c.loop-e.e c.loop-e-test.true)) (demand_low c.args.legs.now c.requires.few c.args.outer c.loop-e.e);
 }
 
-pub offset-bounds-gives-v : goal.offset-bounds-gives-v
-offset-bounds-gives-v c = let a = count_bound (names_face c.args.legs.now) c.loop-e.e in let q = c.loop-e.invariant.0 in search rules
+pub offset_bounds-gives-v : goal.offset_bounds-gives-v
+offset_bounds-gives-v c = let a = count_bound (names_face c.args.legs.now) c.loop-e.e in let q = c.loop-e.invariant.0 in search rules
 
 pub bounds-gives-v : goal.bounds-gives-v
 bounds-gives-v c = let a = count_bound (names_face c.args.legs.now) c.loop-e.e in let q = c.loop-e.invariant.0 in omega arith
 
-pub overflow-add-v : goal.overflow-add-v
-overflow-add-v c = let a = count_bound (names_face c.args.legs.now) c.loop-e.e in let q = c.loop-e.invariant.0 in search rules
+pub overflow_add-v : goal.overflow_add-v
+overflow_add-v c = let a = count_bound (names_face c.args.legs.now) c.loop-e.e in let q = c.loop-e.invariant.0 in search rules
 
 pub loop-e-preserved : goal.loop-e-preserved
 loop-e-preserved c =
@@ -52,7 +52,7 @@ loop-e-preserved c =
     let d = c.requires.demands e l in
     let low = count_bound (names_face legs) e in
     elim c.if-faces-e.branch [
-      | then_faces_e w ↦
+      | then-faces-e w ↦
           (let t : face legs e ≡ e = sym at ∙ w.if-faces-e.true in
           let y = count_yes (names_face legs) e (eq-eqb (face legs e) e t) in
           let n = w.v-is in
@@ -62,7 +62,7 @@ loop-e-preserved c =
             transport (λ i. Holds 0 (plan_wants legs outer) (sym w.wants-is i) (sym n i)) (x),
             transport (λ i. Holds 0 (plan_gives legs outer) (sym w.gives-is i) (sym n i)) (z),
           ))
-      | else_faces_e w ↦
+      | else-faces-e w ↦
           (let y = count_no (names_face legs) e (ne_eqb (face legs e) e (λ z. w.if-faces-e.false (at ∙ z))) in
           let n = w.v-is in (
             omega arith,

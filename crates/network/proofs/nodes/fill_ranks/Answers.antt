@@ -3,7 +3,7 @@ use Rattle.std.proofs.Common.{false, get_or, arith}
 use Rattle.cycles.proofs.Tables.{holds_more, count_yes, count_no}
 use Rattle.network.specs.Tables.{rank}
 use Rattle.network.proofs.nodes.fill_ranks.Goals as goal
-use Rattle.network.proofs.nodes.fill_ranks.Goals.{then_marks_k, else_marks_k}
+use Rattle.network.proofs.nodes.fill_ranks.Goals.{then-marks-k, else-marks-k}
 
 pub loop-k-preserved : goal.loop-k-preserved
 loop-k-preserved c =
@@ -13,6 +13,6 @@ loop-k-preserved c =
     let b = c.loop-k.invariant.2 in
     let r = holds_more 0 (rank marks) c.loop-k.ranks k c.loop-k.total (omega arith) c.loop-k.invariant.0 q in
     elim c.if-marks-k.branch [
-      | then_marks_k w ↦ (let y = count_yes (λ j. get_or marks j false) k w.if-marks-k.true in let z = w.total-is in (r, omega arith, omega arith))
-      | else_marks_k w ↦ (let y = count_no (λ j. get_or marks j false) k w.if-marks-k.false in let z = w.total-is in (r, omega arith, omega arith))
+      | then-marks-k w ↦ (let y = count_yes (λ j. get_or marks j false) k w.if-marks-k.true in let z = w.total-is in (r, omega arith, omega arith))
+      | else-marks-k w ↦ (let y = count_no (λ j. get_or marks j false) k w.if-marks-k.false in let z = w.total-is in (r, omega arith, omega arith))
     ]

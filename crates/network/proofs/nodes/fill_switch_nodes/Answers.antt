@@ -32,8 +32,8 @@ fill_numbers-requires c =
       low = λ k l. let a = rank_le (names_switch legs) _ (ends legs) m _ k c.fill_ranks-count.ensures.each l in omega arith;
     }
 
-pub overflow-add-result : goal.overflow-add-result
-overflow-add-result c =
+pub overflow_add-result : goal.overflow_add-result
+overflow_add-result c =
     let legs = c.args.legs.now in
     let f = count_bound (names_face legs) (ends legs) in
     let r = count_bound (λ j. get_or c.mark_switches.new.marks j false) (ends legs) in

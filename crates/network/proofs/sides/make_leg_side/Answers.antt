@@ -3,5 +3,5 @@ use Rattle.std.proofs.Common.{◌/◌, arith, rules}
 use Rattle.network.proofs.Ranges.{limit_le}
 use Rattle.network.proofs.sides.make_leg_side.Goals as goal
 
-pub overflow-cast-room : goal.overflow-cast-room
-overflow-cast-room c = let h = limit_le c.args.legs.now (c.args.e / 2) c.requires.valid (omega arith) in search rules
+pub overflow_cast-room : goal.overflow_cast-room
+overflow_cast-room c = let h = limit_le c.args.legs.now (c.args.e / 2) c.requires.valid (omega arith) in search rules

@@ -21,8 +21,8 @@ check_embedding-requires g c =
     let hi = b.1 in
     record { valid = ap valid_legs f ∙ g.S.Survey.valid c.args.survey.now; some = omega arith; few = omega arith }
 
-pub invariant-of-plan : goal.invariant-of-plan
-invariant-of-plan g c =
+pub invariant_of-plan : goal.invariant_of-plan
+invariant_of-plan g c =
     let s = c.args.survey.now in
     let legs = g.S.Survey.legs s in
     let table = c.read_legs.new.table in
@@ -33,7 +33,7 @@ invariant-of-plan g c =
         b.1,
         (
           ap valid_legs c.read_legs.ensures ∙ g.S.Survey.valid s,
-          (accepts table legs n c.args.leg c.args.side c.read_legs.ensures c.requires.all c.requires.request c.in_Ok.ensures, tt),
+          (accepts table legs n c.args.leg c.args.side c.read_legs.ensures c.requires.all c.requires.request c.in-Ok.ensures, tt),
         ),
       ),
     )
@@ -53,7 +53,7 @@ returns-in-Ok g c =
     let legs = g.S.Survey.legs c.args.survey.now in
     let f = front c.args.count c.read_legs.new.table legs c.read_legs.ensures in
     record {
-      answer = c.in_Ok.ensures ∙ ap embedding_answer f;
+      answer = c.in-Ok.ensures ∙ ap embedding_answer f;
       state = ap (λ (xs : List Leg). state xs c.args.leg c.args.side) c.read_legs.ensures;
       kept = λ never. absurd (never refl);
     }

@@ -7,7 +7,7 @@ use Rattle.embedding.proofs.Distinct.{leg_stations}
 use Rattle.plan_check.specs.Visits.{visited_at, from_at, to_at, Sound, open_legs}
 use Rattle.plan_check.proofs.Spreading.{sound_more, open_falls}
 use Rattle.plan_check.proofs.connect.spread.Goals as goal
-use Rattle.plan_check.proofs.connect.spread.Goals.{then_is_half_visited, else_is_half_visited}
+use Rattle.plan_check.proofs.connect.spread.Goals.{then-is_half_visited, else-is_half_visited}
 
 pub is_half_visited-requires : goal.is_half_visited-requires
 is_half_visited-requires c = let h = leg_stations c.args.legs.now c.loop-i.i c.requires.valid (omega arith) in let a = h.0 in let b = h.1 in (omega arith, omega arith)
@@ -64,6 +64,6 @@ loop-i-preserved c =
     let la : from_at legs i < length c.loop-i.visited = let a = h.0 in omega arith in
     let lb : to_at legs i < length c.loop-i.visited = let a = h.1 in omega arith in
     elim c.if-is_half_visited.branch [
-      | then_is_half_visited w ↦ as_is legs c.args.visited.now _ _ (i + 1) _ _ (w.visited_is ∙ w.visit_both.ensures) w.changed-is (takes legs c.args.visited.now c.loop-i.visited i c.loop-i.changed c.loop-i.invariant (omega arith) la lb (differ _ _ (sym w.if-is_half_visited.ensures)))
-      | else_is_half_visited w ↦ as_is legs c.args.visited.now _ _ (i + 1) _ _ w.visited_is w.changed-is (keeps legs c.args.visited.now c.loop-i.visited i c.loop-i.changed c.loop-i.invariant (agree _ _ (sym w.if-is_half_visited.ensures)))
+      | then-is_half_visited w ↦ as_is legs c.args.visited.now _ _ (i + 1) _ _ (w.visited_is ∙ w.visit_both.ensures) w.changed-is (takes legs c.args.visited.now c.loop-i.visited i c.loop-i.changed c.loop-i.invariant (omega arith) la lb (differ _ _ (sym w.if-is_half_visited.ensures)))
+      | else-is_half_visited w ↦ as_is legs c.args.visited.now _ _ (i + 1) _ _ w.visited_is w.changed-is (keeps legs c.args.visited.now c.loop-i.visited i c.loop-i.changed c.loop-i.invariant (agree _ _ (sym w.if-is_half_visited.ensures)))
     ]

@@ -5,7 +5,7 @@ use Rattle.std.proofs.lemmas.Bool.Decides.{nat_tests as tests}
 use Rattle.refusal.specs.Answers.{accepted, refuses}
 use Rattle.slice_vec.specs.Places.{at_answer, at_item, in_use}
 use Rattle.slice_vec.proofs.SliceVec.read.Goals as goal
-use Rattle.slice_vec.proofs.SliceVec.read.Goals.{then_i_self_via_then_i_self, then_i_self_via_else_i_self+then_i_self_2}
+use Rattle.slice_vec.proofs.SliceVec.read.Goals.{then-i-self-via-then-i-self, then-i-self-via-else-i-self+then-i-self-2}
 
 none : {A : Type 0} (places : List A) (used i : ℕ) → (used ≤ i) ⊎ (length places ≤ i) → [] ≡ at_item places used i
 none places used i h =
@@ -30,8 +30,8 @@ returns-then-i-self g c =
     let i = c.args.i in
     let h : (v.used ≤ i) ⊎ (length v.places.now ≤ i) =
     elim c.then-i-self.branch [
-      | then_i_self_via_then_i_self w ↦ inl w.if-i-self.true
-      | then_i_self_via_else_i_self+then_i_self_2 w ↦ inr w.if-i-self-2.true
+      | then-i-self-via-then-i-self w ↦ inl w.if-i-self.true
+      | then-i-self-via-else-i-self+then-i-self-2 w ↦ inr w.if-i-self-2.true
     ] in
     record { answer = past_answer v.used (length v.places.now) i h; item = none v.places.now v.used i h }
 

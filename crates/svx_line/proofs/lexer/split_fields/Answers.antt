@@ -9,8 +9,8 @@ use Rattle.svx_line.proofs.lexer.split_fields.Goals as goal
 pub loop-x-init : goal.loop-x-init
 loop-x-init c = held_start _ _ _
 
-pub overflow-add-at : goal.overflow-add-at
-overflow-add-at c =
+pub overflow_add-at : goal.overflow_add-at
+overflow_add-at c =
     let t = next_tells (span_of c.in-Some.x) (c.args.start + c.loop-x.at) (drop c.loop-x.at c.args.line.now) c.in-Some.ensures in
     let d = length-drop c.loop-x.at c.args.line.now in
     let w = c.loop-x.invariant.within in
@@ -30,5 +30,5 @@ loop-x-preserved c =
 
 pub returns : goal.returns
 returns c =
-    let e = held_end c.args.line.now c.args.start c.loop-x.at c.loop-x.count c.loop-x.all c.loop-x.invariant (last_tells (c.args.start + c.loop-x.at) (drop c.loop-x.at c.args.line.now) c.in_default.ensures) in
+    let e = held_end c.args.line.now c.args.start c.loop-x.at c.loop-x.count c.loop-x.all c.loop-x.invariant (last_tells (c.args.start + c.loop-x.at) (drop c.loop-x.at c.args.line.now) c.in-default.ensures) in
     record { count = e.0; all = e.1 ∙ ap (λ (n : ℕ). take n (fields_from c.args.start [] c.args.line.now)) c.loop-x.auto.all }

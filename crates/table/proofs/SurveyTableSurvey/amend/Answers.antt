@@ -17,19 +17,19 @@ front xs ys n start end x l h e =
     let r = (amending n true start end x h).1 in
     ap (take n) e ∙ front_amended xs start end n x r.ordered r.inside l
 
-pub invariant-of-self : goal.invariant-of-self
-invariant-of-self c =
+pub invariant_of-self : goal.invariant_of-self
+invariant_of-self c =
     let t = c.args.self.now in
     let r = c.args in
-    let a = amending t.count true r.start r.end r.attributes c.in_Ok.ensures in
-    let e = front t.legs c.amend.new.legs t.count r.start r.end r.attributes (omega arith) c.in_Ok.ensures c.amend.ensures in
+    let a = amending t.count true r.start r.end r.attributes c.in-Ok.ensures in
+    let e = front t.legs c.amend.new.legs t.count r.start r.end r.attributes (omega arith) c.in-Ok.ensures c.amend.ensures in
     (omega arith, (t.small, (ap valid_legs e ∙ valid_amended r.attributes a.0 r.start r.end (table_legs t) a.1.ordered t.valid, tt)))
 
 pub returns-in-Ok : goal.returns-in-Ok
 returns-in-Ok c =
     let t = c.args.self.now in
     let r = c.args in
-    let e = front t.legs c.amend.new.legs t.count r.start r.end r.attributes (omega arith) c.in_Ok.ensures c.amend.ensures in
+    let e = front t.legs c.amend.new.legs t.count r.start r.end r.attributes (omega arith) c.in-Ok.ensures c.amend.ensures in
     let n : length (table_legs t) ≡ t.count = length-take-le t.count t.legs (omega arith) in
-    let d : accepted ≡ amend_answer (length (table_legs t)) true r.start r.end r.attributes = rw n c.in_Ok.ensures in
+    let d : accepted ≡ amend_answer (length (table_legs t)) true r.start r.end r.attributes = rw n c.in-Ok.ensures in
     record { answer = d; list = e ∙ passes _ _ _ d; facts = λ no. absurd (no refl); led = tt }

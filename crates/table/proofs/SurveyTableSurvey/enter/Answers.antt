@@ -26,16 +26,16 @@ grown xs n l f s v d =
     let k : length (take n xs) ≡ n = length-take-le n xs (omega arith) in
     (length-set xs n l ∙ f, omega arith, ap valid_legs (take_more_set xs n l (omega arith)) ∙ valid_entered (take n xs) l v t.valid t.free)
 
-pub invariant-of-self : goal.invariant-of-self
-invariant-of-self c =
+pub invariant_of-self : goal.invariant_of-self
+invariant_of-self c =
     let t = c.args.self.now in
-    let d = answered (table_legs t) _ c.args.leg c.as_slice-legs.ensures.legs c.in_Ok.ensures in
+    let d = answered (table_legs t) _ c.args.leg c.as_slice-legs.ensures.legs c.in-Ok.ensures in
     let g = grown t.legs t.count c.args.leg t.full t.small t.valid d in
     (g.0, (g.1, (g.2, tt)))
 
 pub returns-in-Ok : goal.returns-in-Ok
 returns-in-Ok c =
     let t = c.args.self.now in
-    let d = answered (table_legs t) _ c.args.leg c.as_slice-legs.ensures.legs c.in_Ok.ensures in
+    let d = answered (table_legs t) _ c.args.leg c.as_slice-legs.ensures.legs c.in-Ok.ensures in
     let r = (grown t.legs t.count c.args.leg t.full t.small t.valid d).1 in
     record { answer = d; list = take_more_set t.legs t.count c.args.leg (omega arith) ∙ passes _ _ _ d; facts = λ no. absurd (no refl); led = tt }

@@ -6,8 +6,8 @@ use Rattle.survey.proofs.Valid.{valid_struck}
 use Rattle.table.specs.Tables.{table_legs}
 use Rattle.table.proofs.SurveyTableSurvey.strike.Goals as goal
 
-pub invariant-of-self : goal.invariant-of-self
-invariant-of-self c =
+pub invariant_of-self : goal.invariant_of-self
+invariant_of-self c =
     let t = c.args.self.now in
-    let r = striking t.count true c.args.start c.args.end c.in_Ok.ensures in
+    let r = striking t.count true c.args.start c.args.end c.in-Ok.ensures in
     (omega arith, (omega arith, (ap valid_legs c.strike.ensures ∙ valid_struck (table_legs t) c.args.start c.args.end r.ordered t.valid, tt)))

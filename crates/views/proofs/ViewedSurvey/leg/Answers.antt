@@ -7,7 +7,7 @@ use Rattle.views.proofs.ViewedSurvey.leg.Goals as goal
 pub returns-in-Ok : goal.returns-in-Ok
 returns-in-Ok g c =
     let s = c.args.self.now in
-    ap leg_told c.show.ensures ∙ found_shown (g.V.View.shows s.view) (g.S.Survey.legs s.below) c.args.i c.in_Ok.leg c.in_Ok.ensures
+    ap leg_told c.show.ensures ∙ found_shown (g.V.View.shows s.view) (g.S.Survey.legs s.below) c.args.i c.in-Ok.leg c.in-Ok.ensures
 
 pub returns-in-Err : goal.returns-in-Err
 returns-in-Err g c =

@@ -7,7 +7,7 @@ use Rattle.draw.specs.Drawings.{drawing_legs, drawing_shape}
 use Rattle.draw.proofs.Held.{legs_count}
 use Rattle.draw.proofs.Large.{at_switch, only_large, no_switch}
 use Rattle.draw.proofs.drawings.Drawing.large_at.Goals as goal
-use Rattle.draw.proofs.drawings.Drawing.large_at.Goals.{else_self_e_via_then_self_e+else_end_station_station, else_self_e_via_else_self_e}
+use Rattle.draw.proofs.drawings.Drawing.large_at.Goals.{else-self-e-via-then-self-e+else-end_station-station, else-self-e-via-else-self-e}
 
 pub returns-then-end_station-station : goal.returns-then-end_station-station
 returns-then-end_station-station c =
@@ -30,8 +30,8 @@ loop-e-preserved c =
     let legs = drawing_legs c.args.self.now in
     below_more _ _ c.loop-e.invariant
     (elim c.else-self-e.branch [
-      | else_self_e_via_then_self_e+else_end_station_station w ↦ (λ s t. w.if-end_station-station.false (w.end_station.ensures ∙ ap (λ (xs : List Leg). station xs c.loop-e.e) w.as_slice.ensures ∙ s))
-      | else_self_e_via_else_self_e w ↦ (λ s t. both_ways _ w.if-self-e.false t)
+      | else-self-e-via-then-self-e+else-end_station-station w ↦ (λ s t. w.if-end_station-station.false (w.end_station.ensures ∙ ap (λ (xs : List Leg). station xs c.loop-e.e) w.as_slice.ensures ∙ s))
+      | else-self-e-via-else-self-e w ↦ (λ s t. both_ways _ w.if-self-e.false t)
     ])
 
 pub returns : goal.returns

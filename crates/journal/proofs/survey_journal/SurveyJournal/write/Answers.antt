@@ -4,8 +4,8 @@ use Rattle.survey.specs.Model.{valid_legs}
 use Rattle.replay.proofs.Written.{appended}
 use Rattle.journal.proofs.survey_journal.SurveyJournal.write.Goals as goal
 
-pub invariant-of-self : goal.invariant-of-self
-invariant-of-self c =
+pub invariant_of-self : goal.invariant_of-self
+invariant_of-self c =
     let s = c.args.self.now.entries in
     let t = c.append.new.self in
     let w = appended s.places.now s.used c.args.change t.places.now t.used c.requires.0 c.append.ensures.used c.append.ensures.places in

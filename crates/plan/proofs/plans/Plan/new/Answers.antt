@@ -4,6 +4,6 @@ use Rattle.embedding.specs.Rotation.{next, face}
 use Rattle.embedding.specs.Joins.{joined}
 use Rattle.plan.proofs.plans.Plan.new.Goals as goal
 
-pub invariant-of-result : goal.invariant-of-result
+pub invariant_of-result : goal.invariant_of-result
 unfolding next face joined
-invariant-of-result c = (refl, (lit≤ tt, (refl, (refl, tt))))
+invariant_of-result c = (refl, (lit≤ tt, (refl, (refl, tt))))
