@@ -13,7 +13,7 @@ as_is : (legs : List Leg) (e rest b b' l l' : ℕ) → b' ≡ b → l' ≡ l →
 as_is legs e rest b b' l l' p q w = rw (p, q) w
 
 -- what the chain holds at the end looked at
-link : (c : goal.After-shared-slice-known-in-loop-rest·1) → get_or c.args.chains.now (c.loop-rest.rest - 1) 0 ≡ end_before c.args.legs.now (c.loop-rest.rest - 1)
+link : (c : goal.After-shared_slice_known-in-loop-rest-1) → get_or c.args.chains.now (c.loop-rest.rest - 1) 0 ≡ end_before c.args.legs.now (c.loop-rest.rest - 1)
 link c = let l = c.loop-rest.invariant.rest_le in c.requires.linked (c.loop-rest.rest - 1) (omega arith)
 
 pub loop-rest-init : goal.loop-rest-init

@@ -12,8 +12,8 @@ use Rattle.search.proofs.round.Goals.{then-try_side, else-try_side}
 
 pub try_side-requires : goal.try_side-requires
 try_side-requires g c =
-    let o = g.Price.Price.ops in
-    let L = g.met.Price.Price.laws in
+    let o = g.T.Price.Price.ops in
+    let L = g.met.T.Price.Price.laws in
     let t = c.args.tariff.now in
     let n = c.args.nodes in
     let sides = c.args.sides.now in
@@ -36,7 +36,7 @@ try_side-requires g c =
 
 pub loop-s-preserved : goal.loop-s-preserved
 loop-s-preserved g c =
-    let o = g.Price.Price.ops in
+    let o = g.T.Price.Price.ops in
     let mv = residual o (g.T.Tariff.rate c.args.tariff.now) c.args.sides.now c.args.flow.now in
     let before = c.loop-s.labels.places.now in
     let s0 : State g.row.T-Price.Denot = start c.args.labels.now.places.now in

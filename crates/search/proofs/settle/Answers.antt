@@ -10,8 +10,8 @@ use Rattle.search.proofs.settle.Goals as goal
 
 pub loop-init : goal.loop-init
 loop-init g c =
-    let o = g.Price.Price.ops in
-    let L = g.met.Price.Price.laws in
+    let o = g.T.Price.Price.ops in
+    let L = g.met.T.Price.Price.laws in
     let n = c.args.nodes in
     let places = c.args.labels.now.places.now in
     let moves = residual o (g.T.Tariff.rate c.args.tariff.now) c.args.sides.now c.args.flow.now in
@@ -30,14 +30,14 @@ round-requires g c = record {
   inside = c.requires.inside.0;
   labels = (omega (arith, c.loop.invariant.3, c.requires.labels.0), omega (arith, c.loop.invariant.4, c.requires.labels.1));
   small = λ v lt.
-      let h = subst (λ (m : Label g.row.T-Price.Denot). g.Price.Price.ops.size m.price ≤ 8190000 * c.loop.counter) (front_at g.Price.Price.ops c.args.nodes c.loop.labels.places.now v lt) (c.loop.invariant.2.small v lt) in
+      let h = subst (λ (m : Label g.row.T-Price.Denot). g.T.Price.Price.ops.size m.price ≤ 8190000 * c.loop.counter) (front_at g.T.Price.Price.ops c.args.nodes c.loop.labels.places.now v lt) (c.loop.invariant.2.small v lt) in
       let i = c.loop.invariant.2.inside in
       omega (arith, c.requires.inside.2);
 }
 
 pub returns-then-not-round : goal.returns-then-not-round
 returns-then-not-round g c =
-    let L = g.met.Price.Price.laws in
+    let L = g.met.T.Price.Price.laws in
     let t = c.args.tariff.now in
     let n = c.args.nodes in
     let sides = c.args.sides.now in
@@ -58,7 +58,7 @@ returns-then-not-round g c =
 
 pub loop-preserved : goal.loop-preserved
 loop-preserved g c =
-    let L = g.met.Price.Price.laws in
+    let L = g.met.T.Price.Price.laws in
     let t = c.args.tariff.now in
     let n = c.args.nodes in
     let sides = c.args.sides.now in

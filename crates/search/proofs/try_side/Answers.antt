@@ -22,13 +22,13 @@ bounds-flow-back g c = let t = twin_within c.args.nodes c.args.sides.now c.requi
 
 pub try_move-requires : goal.try_move-requires
 try_move-requires g c =
-    let o = g.Price.Price.ops in
+    let o = g.T.Price.Price.ops in
     let pr = c.requires.proper in
     let t = twin_within c.args.nodes c.args.sides.now pr c.args.s c.twin-back.result c.requires.inside.0 (twin_by c.args.s c.twin-back.result c.twin-back.ensures) in
     let from = pr.inside c.twin-back.result t.0 in
     let to = pr.inside c.args.s c.requires.inside.0 in
     let cost : o.size c.step_cost-cost.result ≤ 2000 =
-    subst (λ z. o.size z ≤ 2000) (sym c.step_cost-cost.ensures) (cost_small g.met.Price.Price.laws c.fee.result (units c.args.flow.now c.twin-back.result) c.fee.ensures.small) in
+    subst (λ z. o.size z ≤ 2000) (sym c.step_cost-cost.ensures) (cost_small g.met.T.Price.Price.laws c.fee.result (units c.args.flow.now c.twin-back.result) c.fee.ensures.small) in
     record {
       origin = (omega (arith, c.requires.labels.0), omega (arith, c.requires.labels.1));
       target = (omega (arith, c.requires.labels.0), omega (arith, c.requires.labels.1));
@@ -37,21 +37,21 @@ try_move-requires g c =
 
 pub returns-then-flow-s : goal.returns-then-flow-s
 returns-then-flow-s g c =
-    let o = g.Price.Price.ops in
+    let o = g.T.Price.Price.ops in
     let w = network o (g.T.Tariff.rate c.args.tariff.now) c.args.sides.now in
     let f = units c.args.flow.now in
     let none : f (twin c.args.s) ≡ 0 = ap f (sym (twin_by c.args.s c.twin-back.result c.twin-back.ensures)) ∙ c.if-came-eq0.true in
     let same = sym (move_none o w c.args.s _ (f c.args.s) none c.if-flow-s.true) in
     record {
-      told = sym (self_quiet g.met.Price.Price.laws c.args.labels.now.places.now (w.node c.args.s) 65533) ∙ ap (better o c.args.labels.now.places.now) same;
-      left = sym (self_moved g.met.Price.Price.laws c.args.labels.now.places.now (w.node c.args.s) 65533) ∙ ap (moved o c.args.labels.now.places.now) same;
+      told = sym (self_quiet g.met.T.Price.Price.laws c.args.labels.now.places.now (w.node c.args.s) 65533) ∙ ap (better o c.args.labels.now.places.now) same;
+      left = sym (self_moved g.met.T.Price.Price.laws c.args.labels.now.places.now (w.node c.args.s) 65533) ∙ ap (moved o c.args.labels.now.places.now) same;
       used = refl;
       lender = refl;
     }
 
 pub returns : goal.returns
 returns g c =
-    let o = g.Price.Price.ops in
+    let o = g.T.Price.Price.ops in
     let sides = c.args.sides.now in
     let w = network o (g.T.Tariff.rate c.args.tariff.now) sides in
     let e = twin_by c.args.s c.twin-back.result c.twin-back.ensures in

@@ -13,7 +13,7 @@ pub settle-requires : goal.settle-requires
 settle-requires g c =
     let n = length c.args.wants.now in
     let places = c.seed.new.labels.places.now in
-    let seeds = subst (λ k. Seeded g.Price.Price.ops c.args.gives.now (take k places)) c.requires.inside.1 c.seed.ensures.seeded in
+    let seeds = subst (λ k. Seeded g.T.Price.Price.ops c.args.gives.now (take k places)) c.requires.inside.1 c.seed.ensures.seeded in
     let some = c.requires.some.1 in
     record {
       proper = c.requires.proper;
@@ -21,13 +21,13 @@ settle-requires g c =
       labels = (omega (arith, c.seed.ensures.used, c.requires.labels.0), omega (arith, c.seed.ensures.long, c.requires.labels.1));
       room = c.requires.underway.fits;
       safe = c.requires.underway.safe;
-      fresh = seeded_fresh g.Price.Price.ops c.args.gives.now (take n places) seeds;
+      fresh = seeded_fresh g.T.Price.Price.ops c.args.gives.now (take n places) seeds;
     }
 
 pub returns-then-v-wants : goal.returns-then-v-wants
 returns-then-v-wants g c =
-    let o = g.Price.Price.ops in
-    let L = g.met.Price.Price.laws in
+    let o = g.T.Price.Price.ops in
+    let L = g.met.T.Price.Price.laws in
     let t = c.args.tariff.now in
     let n = length c.args.wants.now in
     let sides = c.args.sides.now in
@@ -51,8 +51,8 @@ returns-then-v-wants g c =
 
 pub ship-requires : goal.ship-requires
 ship-requires g c =
-    let o = g.Price.Price.ops in
-    let L = g.met.Price.Price.laws in
+    let o = g.T.Price.Price.ops in
+    let L = g.met.T.Price.Price.laws in
     let t = c.args.tariff.now in
     let n = length c.args.wants.now in
     let sides = c.args.sides.now in
@@ -73,7 +73,7 @@ ship-requires g c =
 
 pub fill_nodes-requires : goal.fill_nodes-requires
 fill_nodes-requires g c =
-    let o = g.Price.Price.ops in
+    let o = g.T.Price.Price.ops in
     let w = network o (g.T.Tariff.rate c.args.tariff.now) c.args.sides.now in
     let places = c.settle.new.labels.places.now in
     let same = c.ship.auto.wants in
@@ -88,7 +88,7 @@ fill_nodes-requires g c =
 
 pub returns : goal.returns
 returns g c =
-    let o = g.Price.Price.ops in
+    let o = g.T.Price.Price.ops in
     let n = length c.args.wants.now in
     let w = network o (g.T.Tariff.rate c.args.tariff.now) c.args.sides.now in
     let same = c.ship.auto.wants in

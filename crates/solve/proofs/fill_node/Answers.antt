@@ -8,7 +8,7 @@ use Rattle.solve.proofs.fill_node.Goals as goal
 
 pub ship-requires : goal.ship-requires
 ship-requires g c =
-    let o = g.Price.Price.ops in
+    let o = g.T.Price.Price.ops in
     let w = network o (g.T.Tariff.rate c.args.tariff.now) c.args.sides.now in
     let places = c.args.labels.now.places.now in
     let f = units c.loop-wants.flow in
@@ -24,7 +24,7 @@ ship-requires g c =
 
 pub loop-wants-preserved : goal.loop-wants-preserved
 loop-wants-preserved g c =
-    let o = g.Price.Price.ops in
+    let o = g.T.Price.Price.ops in
     let w = network o (g.T.Tariff.rate c.args.tariff.now) c.args.sides.now in
     let places = c.args.labels.now.places.now in
     let same = c.loop-wants.auto.wants in

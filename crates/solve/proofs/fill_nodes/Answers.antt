@@ -8,7 +8,7 @@ use Rattle.solve.proofs.fill_nodes.Goals as goal
 
 pub fill_node-requires : goal.fill_node-requires
 fill_node-requires g c =
-    let o = g.Price.Price.ops in
+    let o = g.T.Price.Price.ops in
     let w = network o (g.T.Tariff.rate c.args.tariff.now) c.args.sides.now in
     let places = c.args.labels.now.places.now in
     let same = c.loop-v.auto.wants in
@@ -22,7 +22,7 @@ fill_node-requires g c =
 
 pub loop-v-preserved : goal.loop-v-preserved
 loop-v-preserved g c =
-    let o = g.Price.Price.ops in
+    let o = g.T.Price.Price.ops in
     let w = network o (g.T.Tariff.rate c.args.tariff.now) c.args.sides.now in
     let places = c.args.labels.now.places.now in
     let same = c.loop-v.auto.wants in

@@ -8,8 +8,8 @@ use Rattle.solve.proofs.fill_nodes.Given as goal
 
 abbrev pub invariant-loop-v : goal.invariant-loop-v
 invariant-loop-v g l =
-    let w = network g.Price.Price.ops (g.T.Tariff.rate l.tariff) l.sides in
+    let w = network g.T.Price.Price.ops (g.T.Tariff.rate l.tariff) l.sides in
     let n = length l.initial.wants in
-    Labelled g.Price.Price.ops n w (label_at g.Price.Price.ops (take n l.labels.places.now)) (units l.flow)
+    Labelled g.T.Price.Price.ops n w (label_at g.T.Price.Price.ops (take n l.labels.places.now)) (units l.flow)
     × Onward n w (units l.initial.wants) (units l.initial.gives) (units l.initial.flow) (units l.wants) (units l.gives) (units l.flow)
     × (total n l.gives ≤ total n l.initial.gives)

@@ -12,7 +12,7 @@ use Rattle.solve.proofs.is_supplied.Goals as goal
 
 pub returns-then-label_at : goal.returns-then-label_at
 returns-then-label_at g c h =
-    let o = g.Price.Price.ops in
+    let o = g.T.Price.Price.ops in
     let n = length c.args.gives.now in
     let v = c.args.labels.now in
     let e = label_read o n v.used v.places.now c.loop.at c.label_at.result c.loop.invariant.0 c.requires.labels.0 c.label_at.ensures in
@@ -20,7 +20,7 @@ returns-then-label_at g c h =
 
 pub loop-preserved : goal.loop-preserved
 loop-preserved g c =
-    let o = g.Price.Price.ops in
+    let o = g.T.Price.Price.ops in
     let n = length c.args.gives.now in
     let v = c.args.labels.now in
     let sides = c.args.sides.now in

@@ -8,7 +8,7 @@ use Rattle.solve.proofs.is_supplied.Given as goal
 
 abbrev pub invariant-loop : goal.invariant-loop
 invariant-loop g l =
-    let w = network g.Price.Price.ops (g.T.Tariff.rate l.tariff) l.sides in
-    let label = label_at g.Price.Price.ops (take (length l.gives) l.labels.places.now) in
+    let w = network g.T.Price.Price.ops (g.T.Tariff.rate l.tariff) l.sides in
+    let label = label_at g.T.Price.Price.ops (take (length l.gives) l.labels.places.now) in
     (l.at < length l.gives)
-    × (Supplied g.Price.Price.ops w (units l.came_by) label (units l.flow) (units l.gives) l.at → Supplied g.Price.Price.ops w (units l.came_by) label (units l.flow) (units l.gives) l.v)
+    × (Supplied g.T.Price.Price.ops w (units l.came_by) label (units l.flow) (units l.gives) l.at → Supplied g.T.Price.Price.ops w (units l.came_by) label (units l.flow) (units l.gives) l.v)

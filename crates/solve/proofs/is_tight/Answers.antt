@@ -13,7 +13,7 @@ use Rattle.solve.proofs.is_tight.Goals.{else-came-eq0-via-then-came-eq0+else-flo
 
 pub add-price-requires : goal.add-price-requires
 add-price-requires g c =
-    let o = g.Price.Price.ops in
+    let o = g.T.Price.Price.ops in
     let n = c.args.nodes in
     let v = c.args.labels.now in
     let sides = c.args.sides.now in
@@ -23,7 +23,7 @@ add-price-requires g c =
     let from = pr.inside c.twin-back.result t.0 in
     let x = (side_at sides c.twin-back.result).node in
     let cost : o.size c.step_cost-cost.result ≤ 2000 =
-    subst (λ z. o.size z ≤ 2000) (sym c.step_cost-cost.ensures) (cost_small g.met.Price.Price.laws c.fee.result (units c.args.flow.now c.twin-back.result) c.fee.ensures.small) in
+    subst (λ z. o.size z ≤ 2000) (sym c.step_cost-cost.ensures) (cost_small g.met.T.Price.Price.laws c.fee.result (units c.args.flow.now c.twin-back.result) c.fee.ensures.small) in
     let is = label_read o n v.used v.places.now x c.label_at.result from c.requires.labels.0 c.label_at.ensures ∙ front_at o n v.places.now x from in
     let size = ap (λ (m : Label g.row.T-Price.Denot). o.size m.price) is in
     let small = c.requires.small x from in
@@ -31,8 +31,8 @@ add-price-requires g c =
 
 pub returns-then-at_most : goal.returns-then-at_most
 returns-then-at_most g c r =
-    let o = g.Price.Price.ops in
-    let L = g.met.Price.Price.laws in
+    let o = g.T.Price.Price.ops in
+    let L = g.met.T.Price.Price.laws in
     let n = c.args.nodes in
     let v = c.args.labels.now in
     let sides = c.args.sides.now in

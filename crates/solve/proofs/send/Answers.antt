@@ -16,8 +16,8 @@ use Rattle.solve.proofs.send.Goals as goal
 
 pub loop-init : goal.loop-init
 loop-init g c =
-    let o = g.Price.Price.ops in
-    let L = g.met.Price.Price.laws in
+    let o = g.T.Price.Price.ops in
+    let L = g.met.T.Price.Price.laws in
     let t = c.args.tariff.now in
     let n = c.args.nodes in
     let sides = c.args.sides.now in
@@ -28,8 +28,8 @@ loop-init g c =
 
 pub returns-then-label_at : goal.returns-then-label_at
 returns-then-label_at g c =
-    let o = g.Price.Price.ops in
-    let L = g.met.Price.Price.laws in
+    let o = g.T.Price.Price.ops in
+    let L = g.met.T.Price.Price.laws in
     let t = c.args.tariff.now in
     let n = c.args.nodes in
     let sides = c.args.sides.now in
@@ -50,10 +50,10 @@ returns-then-label_at g c =
 
 -- the side that the label of x came by
 open_side : (g : Rattle.solve.proofs.send.Given.Over) (t : g.row.T.Denot) (n : ℕ) (sides : List Side) (pr : Proper n sides) (used : ℕ) (places : List (Label g.row.T-Price.Denot)) → n ≤ used → n ≤ length places → (came flow₀ flow : List ℕ) (v u x i : ℕ) →
-    On g.Price.Price.ops n (network g.Price.Price.ops (g.T.Tariff.rate t) sides) (units came) (label_at g.Price.Price.ops (take n places)) (units flow₀) (units flow) v u x i → (r : Label g.row.T-Price.Denot) → r ≡ first_of (blank g.Price.Price.ops) (at_item places used x) → (r.end ≡ 65534 → ⊥) →
-    ((label_at g.Price.Price.ops (take n places) x).end ≡ 65534 → ⊥) × Tight g.Price.Price.ops (network g.Price.Price.ops (g.T.Tariff.rate t) sides) (label_at g.Price.Price.ops (take n places)) (units flow) x (units came x)
+    On g.T.Price.Price.ops n (network g.T.Price.Price.ops (g.T.Tariff.rate t) sides) (units came) (label_at g.T.Price.Price.ops (take n places)) (units flow₀) (units flow) v u x i → (r : Label g.row.T-Price.Denot) → r ≡ first_of (blank g.T.Price.Price.ops) (at_item places used x) → (r.end ≡ 65534 → ⊥) →
+    ((label_at g.T.Price.Price.ops (take n places) x).end ≡ 65534 → ⊥) × Tight g.T.Price.Price.ops (network g.T.Price.Price.ops (g.T.Tariff.rate t) sides) (label_at g.T.Price.Price.ops (take n places)) (units flow) x (units came x)
 open_side g t n sides pr used places le long came flow₀ flow v u x i on r e ne =
-    let o = g.Price.Price.ops in
+    let o = g.T.Price.Price.ops in
     let q = label_read o n used places x r on.inside le e in
     let no_root : (label_at o (take n places) x).end ≡ 65534 → ⊥ = λ z. ne (ap (λ (m : Label g.row.T-Price.Denot). m.end) q ∙ z) in
     (no_root, (first_side on.way no_root).3)
@@ -81,8 +81,8 @@ bounds-sides-twin g c =
 
 pub loop-preserved : goal.loop-preserved
 loop-preserved g c =
-    let o = g.Price.Price.ops in
-    let L = g.met.Price.Price.laws in
+    let o = g.T.Price.Price.ops in
+    let L = g.met.T.Price.Price.laws in
     let t = c.args.tariff.now in
     let n = c.args.nodes in
     let sides = c.args.sides.now in

@@ -8,4 +8,4 @@ use Rattle.solve.proofs.send.Given as goal
 
 abbrev pub invariant-loop : goal.invariant-loop
 invariant-loop g l =
-    (u : ℕ) × On g.Price.Price.ops l.nodes (network g.Price.Price.ops (g.T.Tariff.rate l.tariff) l.sides) (units l.came_by) (label_at g.Price.Price.ops (take l.nodes l.labels.places.now)) (units l.initial.flow) (units l.flow) l.v u l.at l.counter
+    (u : ℕ) × On g.T.Price.Price.ops l.nodes (network g.T.Price.Price.ops (g.T.Tariff.rate l.tariff) l.sides) (units l.came_by) (label_at g.T.Price.Price.ops (take l.nodes l.labels.places.now)) (units l.initial.flow) (units l.flow) l.v u l.at l.counter

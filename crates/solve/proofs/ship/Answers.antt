@@ -11,8 +11,8 @@ use Rattle.solve.proofs.ship.Goals as goal
 
 pub returns : goal.returns
 returns g c =
-    let o = g.Price.Price.ops in
-    let L = g.met.Price.Price.laws in
+    let o = g.T.Price.Price.ops in
+    let L = g.met.T.Price.Price.laws in
     let t = c.args.tariff.now in
     let n = length c.args.wants.now in
     let sides = c.args.sides.now in

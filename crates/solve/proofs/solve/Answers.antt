@@ -12,8 +12,8 @@ use Rattle.solve.proofs.solve.Goals as goal
 
 pub loop-came_by-init : goal.loop-came_by-init
 loop-came_by-init g c =
-    let o = g.Price.Price.ops in
-    let L = g.met.Price.Price.laws in
+    let o = g.T.Price.Price.ops in
+    let L = g.met.T.Price.Price.laws in
     let t = c.args.tariff.now in
     let n = length c.args.wants.now in
     let sides = c.args.sides.now in
@@ -31,7 +31,7 @@ loop-came_by-init g c =
 
 pub returns-then-not-advance : goal.returns-then-not-advance
 returns-then-not-advance g c =
-    let w = network g.Price.Price.ops (g.T.Tariff.rate c.args.tariff.now) c.args.sides.now in
+    let w = network g.T.Price.Price.ops (g.T.Tariff.rate c.args.tariff.now) c.args.sides.now in
     let P = units c.args.wants.now in
     let Q = units c.args.gives.now in
     let same = c.loop-came_by.auto.wants in
@@ -46,7 +46,7 @@ returns-then-not-advance g c =
 
 pub loop-came_by-preserved : goal.loop-came_by-preserved
 loop-came_by-preserved g c =
-    let o = g.Price.Price.ops in
+    let o = g.T.Price.Price.ops in
     let w = network o (g.T.Tariff.rate c.args.tariff.now) c.args.sides.now in
     let P = units c.args.wants.now in
     let Q = units c.args.gives.now in
@@ -63,8 +63,8 @@ loop-came_by-preserved g c =
 
 pub returns : goal.returns
 returns g c =
-    let o = g.Price.Price.ops in
-    let L = g.met.Price.Price.laws in
+    let o = g.T.Price.Price.ops in
+    let L = g.met.T.Price.Price.laws in
     let t = c.args.tariff.now in
     let n = length c.args.wants.now in
     let sides = c.args.sides.now in

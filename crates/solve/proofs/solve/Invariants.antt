@@ -8,8 +8,8 @@ use Rattle.solve.proofs.solve.Given as goal
 
 abbrev pub invariant-loop-came_by : goal.invariant-loop-came_by
 invariant-loop-came_by g l =
-    let w = network g.Price.Price.ops (g.T.Tariff.rate l.tariff) l.sides in
-    Underway g.Price.Price.ops (length l.initial.wants) w (units l.flow)
+    let w = network g.T.Price.Price.ops (g.T.Tariff.rate l.tariff) l.sides in
+    Underway g.T.Price.Price.ops (length l.initial.wants) w (units l.flow)
     × Leaves (length l.initial.wants) w (units l.initial.wants) (units l.initial.gives) (units l.wants) (units l.gives) (units l.flow)
     × (length l.came_by ≡ 512)
     × (length l.initial.wants ≤ l.labels.used)

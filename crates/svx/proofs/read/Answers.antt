@@ -55,7 +55,7 @@ returns-in-Err g c =
 pub returns : goal.returns
 returns g c =
     let m = means g.S.Survey.legs g.S.Survey.enters g.S.Survey.amends g.S.Survey.leads in
-    let n = c.in-default.ensures.last refl in
+    let n = c.in_default.ensures.last refl in
     let k = ap length c.loop-x.invariant.0 in
     let run = short m c.args.text.now c.args.survey.now through c.loop-x.survey c.if-text-gt-MOST_BYTES.false
     (onward_end m c.args.text.now c.loop-x.reader.place c.loop-x.reader.line c.args.survey.now c.loop-x.survey (left_none c.args.text.now c.loop-x.reader.place (omega arith)) c.loop-x.invariant.2) in

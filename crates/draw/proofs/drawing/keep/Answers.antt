@@ -125,6 +125,6 @@ returns g c =
     let h : Filled c.count-count.result (units c.args.flow.now) (shape_of c.fill_large.new.large c.fill_bends.new.bends c.fill_bends-2.new.bends) = record { large = c.fill_large.ensures; left = c.fill_bends.ensures; right = c.fill_bends-2.ensures } in
     record {
       plan = λ t. state (same t) (o t) (s t);
-      shape = least_shape (plan_legs p) c.count-count.result n (units c.args.flow.now) _ _ _ h g.met.Price.Price.laws rate (outer_face p) c.price_bends-price.result c.requires.least
-          (c.price_bends-price.ensures ∙ ap (λ (xs : List Leg). shape_price g.Price.Price.ops rate xs tables) c.as_slice-2.ensures);
+      shape = least_shape (plan_legs p) c.count-count.result n (units c.args.flow.now) _ _ _ h g.met.T.Price.Price.laws rate (outer_face p) c.price_bends-price.result c.requires.least
+          (c.price_bends-price.ensures ∙ ap (λ (xs : List Leg). shape_price g.T.Price.Price.ops rate xs tables) c.as_slice-2.ensures);
     }

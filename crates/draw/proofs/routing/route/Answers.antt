@@ -49,7 +49,7 @@ solve-requires g c =
 
 pub returns : goal.returns
 returns g c =
-    let o = g.Price.Price.ops in
+    let o = g.T.Price.Price.ops in
     let legs = c.args.legs.now in
     let rate = g.T.Tariff.rate c.args.tariff.now in
     let outer = face legs c.args.outer in
@@ -62,7 +62,7 @@ returns g c =
     let w = front_long c.fill_network-nodes.new.wants c.fill_network-nodes.result (nodes legs) n (omega arith) in
     let held = front_demands legs outer c.fill_network-nodes.result c.fill_network-nodes.new.wants c.fill_network-nodes.new.gives n c.fill_network-nodes.ensures.demands in
     record {
-      routed = routed g.met.Price.Price.laws rate (g.met.T.Tariff.low c.args.tariff.now) legs outer sides P Q c.requires.valid c.requires.planar small c.fill_network-nodes.ensures.sides held (units c.solve.new.flow) c.solve.result
+      routed = routed g.met.T.Price.Price.laws rate (g.met.T.Tariff.low c.args.tariff.now) legs outer sides P Q c.requires.valid c.requires.planar small c.fill_network-nodes.ensures.sides held (units c.solve.new.flow) c.solve.result
           (subst (λ (k : ℕ). Answered o k (network o rate sides) P Q (units c.solve.new.flow) c.solve.result) w c.solve.ensures.answered);
       long = c.solve.ensures.long;
       lender = c.solve.ensures.lender;

@@ -9,7 +9,7 @@ use Rattle.survey.specs.Ends.{no_leg}
 use Rattle.survey.specs.Model.{leg_told, query_answer, is_accepted}
 use Rattle.survey.proofs.Accepted.{found_answer, refused_not}
 use Rattle.plan.proofs.planning.read_legs.Goals as goal
-use Rattle.plan.proofs.planning.read_legs.Goals.{in-Ok, in-default}
+use Rattle.plan.proofs.planning.read_legs.Goals.{in-Ok, in_default}
 
 -- a leg is told by its six numbers
 same_leg : (a b : Leg) → leg_told a ≡ leg_told b → a ≡ b
@@ -40,7 +40,7 @@ loop-i-preserved g c =
     let i = c.loop-i.i in
     elim c.match-leg.branch [
       | in-Ok w ↦ subst (λ (t : List Leg). take (i + 1) t ≡ take (i + 1) legs) (sym w.table-is) (copied legs c.loop-i.table i w.in-Ok.leg (omega arith) (omega arith) c.loop-i.invariant w.in-Ok.ensures)
-      | in-default w ↦ absurd (never legs i w.in-default.field-0 (omega arith) w.in-default.ensures)
+      | in_default w ↦ absurd (never legs i w.in_default.field-0 (omega arith) w.in_default.ensures)
     ]
 
 pub returns : goal.returns

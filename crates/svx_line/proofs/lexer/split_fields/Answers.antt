@@ -30,5 +30,5 @@ loop-x-preserved c =
 
 pub returns : goal.returns
 returns c =
-    let e = held_end c.args.line.now c.args.start c.loop-x.at c.loop-x.count c.loop-x.all c.loop-x.invariant (last_tells (c.args.start + c.loop-x.at) (drop c.loop-x.at c.args.line.now) c.in-default.ensures) in
+    let e = held_end c.args.line.now c.args.start c.loop-x.at c.loop-x.count c.loop-x.all c.loop-x.invariant (last_tells (c.args.start + c.loop-x.at) (drop c.loop-x.at c.args.line.now) c.in_default.ensures) in
     record { count = e.0; all = e.1 ∙ ap (λ (n : ℕ). take n (fields_from c.args.start [] c.args.line.now)) c.loop-x.auto.all }

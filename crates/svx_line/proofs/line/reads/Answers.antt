@@ -1,13 +1,9 @@
 -- Two texts are the same where their bytes are.
 use Rattle.std.proofs.Common.{ap, ◌∙◌}
 use Rattle.std.specs.Str.{bytes_eq}
-use Rattle.std.proofs.lemmas.Slice.Eq.{slice_eq-Decides, bytes_eq-Decides}
-use Rattle.std.proofs.lemmas.Bool.Decides.{same_from_decides, Decides-eqb}
 use Rattle.svx_line.specs.Spans.{Span}
 use Rattle.svx_line.proofs.Judging.{field_part}
 use Rattle.svx_line.proofs.line.reads.Goals as goal
 
 pub returns : goal.returns
-returns c =
-    same_from_decides _ _ (slice_eq-Decides Decides-eqb _ _ _ c.eq.ensures) (bytes_eq-Decides _ _)
-    ∙ ap (λ (y : Span). bytes_eq y.bytes c.args.word.now) (field_part c.args.all.now c.args.i)
+returns c = c.eq.ensures ∙ ap (λ (y : Span). bytes_eq y.bytes c.args.word.now) (field_part c.args.all.now c.args.i)

@@ -23,7 +23,7 @@ invariant_of-self c =
     let r = c.args in
     let a = amending t.count true r.start r.end r.attributes c.in-Ok.ensures in
     let e = front t.legs c.amend.new.legs t.count r.start r.end r.attributes (omega arith) c.in-Ok.ensures c.amend.ensures in
-    (omega arith, (t.small, (ap valid_legs e ∙ valid_amended r.attributes a.0 r.start r.end (table_legs t) a.1.ordered t.valid, tt)))
+    record { full = omega arith; small = t.small; valid = ap valid_legs e ∙ valid_amended r.attributes a.0 r.start r.end (table_legs t) a.1.ordered t.valid }
 
 pub returns-in-Ok : goal.returns-in-Ok
 returns-in-Ok c =

@@ -31,7 +31,7 @@ invariant_of-self c =
     let t = c.args.self.now in
     let d = answered (table_legs t) _ c.args.leg c.as_slice-legs.ensures.legs c.in-Ok.ensures in
     let g = grown t.legs t.count c.args.leg t.full t.small t.valid d in
-    (g.0, (g.1, (g.2, tt)))
+    record { full = g.0; small = g.1; valid = g.2 }
 
 pub returns-in-Ok : goal.returns-in-Ok
 returns-in-Ok c =

@@ -10,4 +10,4 @@ pub invariant_of-self : goal.invariant_of-self
 invariant_of-self c =
     let t = c.args.self.now in
     let r = striking t.count true c.args.start c.args.end c.in-Ok.ensures in
-    (omega arith, (omega arith, (ap valid_legs c.strike.ensures ∙ valid_struck (table_legs t) c.args.start c.args.end r.ordered t.valid, tt)))
+    record { full = omega arith; small = omega arith; valid = ap valid_legs c.strike.ensures ∙ valid_struck (table_legs t) c.args.start c.args.end r.ordered t.valid }

@@ -9,11 +9,11 @@ invariant_of-self c =
     let s = c.args.self.now.entries in
     let t = c.append.new.self in
     let w = appended s.places.now s.used c.args.change t.places.now t.used c.requires.0 c.append.ensures.used c.append.ensures.places in
-    (w.small, (ap valid_legs w.list ∙ c.requires.1, tt))
+    record { small = w.small; valid = ap valid_legs w.list ∙ c.requires.1 }
 
 pub returns : goal.returns
 returns c =
     let s = c.args.self.now.entries in
     let t = c.append.new.self in
     let w = appended s.places.now s.used c.args.change t.places.now t.used c.requires.0 c.append.ensures.used c.append.ensures.places in
-    record { list = w.list; wrote = record { lender = c.append.ensures.lender; taken = w.one-more; entries = w.set-there } }
+    record { list = w.list; wrote = record { lender = c.append.ensures.lender; taken = w.one_more; entries = w.set_there } }
