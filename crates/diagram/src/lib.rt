@@ -27,8 +27,8 @@ pub fn run<S: Survey, T: Tariff>(
     labels: &mut SliceVec<'_, Label<T::Price>>,
     drawing: &mut Drawing,
 ) -> Result<T::Price, Refusal>
-    ensures sent { Sent legs enters amends leads survey.old steps.old steps.new survey.new }
-    ensures drawn { Outcome T.Price.Price.ops (T.Tariff.rate tariff.now) (run_plan (legs survey.old) (plan_state plan) steps.new) drawing.old drawing.new (record { places = labels.old.places.now; used = labels.old.used }) (record { places = labels.new.places.now; used = labels.new.used }) result }
+    ensures sent { Sent S.legs S.enters S.amends S.leads survey.old steps.old steps.new survey.new }
+    ensures drawn { Outcome T.Price.Price.ops (T.Tariff.rate tariff.now) (run_plan (S.legs survey.old) (plan_state plan) steps.new) drawing.old drawing.new (record { places = labels.old.places.now; used = labels.old.used }) (record { places = labels.new.places.now; used = labels.new.used }) result }
     ensures long { length labels.new.places.now ≡ length labels.old.places.now }
     ensures lender { labels.new.places.ghost_name ≡ labels.old.places.ghost_name }
 {

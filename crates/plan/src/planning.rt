@@ -21,9 +21,9 @@ const BLANK: Leg = Leg {
 
 // Copies the legs of a survey into the front of a table.
 fn read_legs<S: Survey>(survey: &S, count: usize, table: &mut [Leg])
-    requires all { count ≡ length (legs survey.now) }
+    requires all { count ≡ length (S.legs survey.now) }
     requires room { count ≤ length table.old }
-    ensures { take count table.new ≡ legs survey.now }
+    ensures { take count table.new ≡ S.legs survey.now }
 {
     for i in 0..count {
         if let Ok(leg) = survey.leg(i) {
@@ -40,10 +40,10 @@ fn plan_legs<S: Survey>(
     leg: usize,
     side: u32,
 ) -> Result<(), Refusal>
-    requires all { count ≡ length (legs survey.now) }
+    requires all { count ≡ length (S.legs survey.now) }
     requires request { accepted ≡ request_answer count leg side }
-    ensures answer { told result ≡ embedding_answer (legs survey.now) }
-    ensures state { plan_state plan.new ≡ planned_state (told result) (legs survey.now) leg side (plan_state plan.old) }
+    ensures answer { told result ≡ embedding_answer (S.legs survey.now) }
+    ensures state { plan_state plan.new ≡ planned_state (told result) (S.legs survey.now) leg side (plan_state plan.old) }
     ensures kept { (told result ≢ accepted) → plan.new ≡ plan.old }
 {
     let mut table = [BLANK; 256];
@@ -62,8 +62,8 @@ fn plan_legs<S: Survey>(
 
 /// Reads a survey into a plan with the outer side asked for. A refusal leaves the plan as it was.
 pub fn plan<S: Survey>(survey: &S, plan: &mut Plan, leg: usize, side: u32) -> Result<(), Refusal>
-    ensures answer { told result ≡ plan_answer (legs survey.now) leg side }
-    ensures state { plan_state plan.new ≡ planned_state (plan_answer (legs survey.now) leg side) (legs survey.now) leg side (plan_state plan.old) }
+    ensures answer { told result ≡ plan_answer (S.legs survey.now) leg side }
+    ensures state { plan_state plan.new ≡ planned_state (plan_answer (S.legs survey.now) leg side) (S.legs survey.now) leg side (plan_state plan.old) }
     ensures kept { (told result ≢ accepted) → plan.new ≡ plan.old }
 {
     let count = survey.count();

@@ -20,7 +20,7 @@ use views::{Declination, Mirrored, Reversed, View, Viewed};
 
 /// Sends the steps to any survey through a declination over the reversed view over the mirrored view.
 pub fn send_through<S: Survey>(below: &mut S, turn: u32, steps: &mut [Step])
-    ensures { Sent (λ s. stack_shows (turn % 3600) (legs s)) enters amends (λ s cs t. leads s (stack_sends (turn % 3600) cs) t) below.old steps.old steps.new below.new }
+    ensures { Sent (λ s. stack_shows (turn % 3600) (S.legs s)) S.enters S.amends (λ s cs t. S.leads s (stack_sends (turn % 3600) cs) t) below.old steps.old steps.new below.new }
 {
     let mut mirrored = Viewed {
         view: Mirrored,
@@ -31,7 +31,7 @@ pub fn send_through<S: Survey>(below: &mut S, turn: u32, steps: &mut [Step])
 
 // The two upper views of the stack.
 fn send_reversed<S: Survey>(below: &mut S, turn: u32, steps: &mut [Step])
-    ensures { Sent (λ s. upper_shows (turn % 3600) (legs s)) enters amends (λ s cs t. leads s (upper_sends (turn % 3600) cs) t) below.old steps.old steps.new below.new }
+    ensures { Sent (λ s. upper_shows (turn % 3600) (S.legs s)) S.enters S.amends (λ s cs t. S.leads s (upper_sends (turn % 3600) cs) t) below.old steps.old steps.new below.new }
 {
     let mut reversed = Viewed {
         view: Reversed,
@@ -42,7 +42,7 @@ fn send_reversed<S: Survey>(below: &mut S, turn: u32, steps: &mut [Step])
 
 // The top of the stack. Calls to plan fill a plan that is let go.
 fn send_declined<S: Survey>(below: &mut S, turn: u32, steps: &mut [Step])
-    ensures { Sent (λ s. top_shows (turn % 3600) (legs s)) enters amends (λ s cs t. leads s (top_sends (turn % 3600) cs) t) below.old steps.old steps.new below.new }
+    ensures { Sent (λ s. top_shows (turn % 3600) (S.legs s)) S.enters S.amends (λ s cs t. S.leads s (top_sends (turn % 3600) cs) t) below.old steps.old steps.new below.new }
 {
     let mut declined = Viewed {
         view: Declination::new(turn),

@@ -37,7 +37,7 @@ fn told(answer: Result<(), Refusal>) -> (u32, usize)
 
 // The bearing of leg i, or none.
 fn bearing<S: Survey>(s: &S, i: usize) -> Option<u32>
-    ensures { result ≡ bearing_told (query_answer (legs s.now) i) }
+    ensures { result ≡ bearing_told (query_answer (S.legs s.now) i) }
 {
     match s.leg(i) {
         Ok(l) => Some(l.bearing),

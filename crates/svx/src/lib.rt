@@ -25,7 +25,7 @@ const MOST_BYTES: usize = 65536;
 
 // Enters the leg that a line offers.
 fn enter_offer<S: Survey>(x: Offer, line: usize, survey: &mut S) -> Result<(), Fault>
-    ensures { Reads (means legs enters amends leads) (offer line x.place x.leg ends) survey.old (outcome result) survey.new }
+    ensures { Reads (means S.legs S.enters S.amends S.leads) (offer line x.place x.leg ends) survey.old (outcome result) survey.new }
 {
     match survey.enter(x.leg) {
         Ok(()) => Ok(()),
@@ -41,7 +41,7 @@ fn enter_offer<S: Survey>(x: Offer, line: usize, survey: &mut S) -> Result<(), F
 // Reads one line, and enters its leg if it has one.
 fn read_line<'a, S: Survey>(part: Part<'a>, line: usize, survey: &mut S) -> Result<(), Fault>
     requires { part.place + length part.bytes.now < 2 ^ 64 }
-    ensures { Reads (means legs enters amends leads) (follow (verdict (fields (span_of part.entry))) line ends) survey.old (outcome result) survey.new }
+    ensures { Reads (means S.legs S.enters S.amends S.leads) (follow (verdict (fields (span_of part.entry))) line ends) survey.old (outcome result) survey.new }
 {
     match judge(part.bytes, part.place) {
         Err(flaw) => Err(Fault {
@@ -58,8 +58,8 @@ fn read_line<'a, S: Survey>(part: Part<'a>, line: usize, survey: &mut S) -> Resu
 /// Reads a survey text, and enters each of its legs into the survey, up to the first fault.
 /// Legs entered before the fault stay.
 pub fn read<S: Survey>(text: &[u8], survey: &mut S) -> Result<(), Fault>
-    ensures run { Reads (means legs enters amends leads) (script text.now) survey.old (outcome result) survey.new }
-    ensures exactly { Exactly (means legs enters amends leads) (script text.now) survey.old (outcome result) survey.new }
+    ensures run { Reads (means S.legs S.enters S.amends S.leads) (script text.now) survey.old (outcome result) survey.new }
+    ensures exactly { Exactly (means S.legs S.enters S.amends S.leads) (script text.now) survey.old (outcome result) survey.new }
 {
     if text.len() > MOST_BYTES {
         return Err(Fault {

@@ -25,8 +25,8 @@ use survey::leg::Change;
 /// Sends each step's call to the survey, in order, and records in the step what the survey allowed just before it
 /// and how it answered. Accepted calls to plan fill the plan.
 pub fn send<S: Survey>(survey: &mut S, steps: &mut [Step], plan: &mut Plan)
-    ensures sent { Sent legs enters amends leads survey.old steps.old steps.new survey.new }
-    ensures plan { plan_state plan.new ≡ run_plan (legs survey.old) (plan_state plan.old) steps.new }
+    ensures sent { Sent S.legs S.enters S.amends S.leads survey.old steps.old steps.new survey.new }
+    ensures plan { plan_state plan.new ≡ run_plan (S.legs survey.old) (plan_state plan.old) steps.new }
 {
     for i in 0..steps.len() {
         let sent = send_one(survey, plan, steps[i].call);
@@ -37,8 +37,8 @@ pub fn send<S: Survey>(survey: &mut S, steps: &mut [Step], plan: &mut Plan)
 // Sends one call, and records how it went.
 fn send_one<S: Survey>(survey: &mut S, plan: &mut Plan, call: Call) -> Step
     ensures call { result.call ≡ call }
-    ensures recorded { Recorded legs enters amends leads survey.old result survey.new }
-    ensures plan { plan_state plan.new ≡ call_plan (legs survey.old) (plan_state plan.old) call }
+    ensures recorded { Recorded S.legs S.enters S.amends S.leads survey.old result survey.new }
+    ensures plan { plan_state plan.new ≡ call_plan (S.legs survey.old) (plan_state plan.old) call }
 {
     let may_enter = (*survey).may_enter();
     let may_amend = (*survey).may_amend();
@@ -53,12 +53,12 @@ fn send_one<S: Survey>(survey: &mut S, plan: &mut Plan, call: Call) -> Step
 
 // Makes a call.
 fn answer<S: Survey>(survey: &mut S, plan: &mut Plan, call: Call) -> Result<Reply, Refusal>
-    ensures answer { told_by reply_told result ≡ call_answer (legs survey.old) (enters survey.old) (amends survey.old) call }
-    ensures reply { Replies result (call_reply (legs survey.old) (enters survey.old) (amends survey.old) call) }
-    ensures list { legs survey.new ≡ call_legs (legs survey.old) (enters survey.old) (amends survey.old) call }
-    ensures led { leads survey.old (call_changes (told_by reply_told result) call) survey.new }
-    ensures kept { call_changes (told_by reply_told result) call ≡ [] → (enters survey.new ≡ enters survey.old) × (amends survey.new ≡ amends survey.old) }
-    ensures plan { plan_state plan.new ≡ call_plan (legs survey.old) (plan_state plan.old) call }
+    ensures answer { told_by reply_told result ≡ call_answer (S.legs survey.old) (S.enters survey.old) (S.amends survey.old) call }
+    ensures reply { Replies result (call_reply (S.legs survey.old) (S.enters survey.old) (S.amends survey.old) call) }
+    ensures list { S.legs survey.new ≡ call_legs (S.legs survey.old) (S.enters survey.old) (S.amends survey.old) call }
+    ensures led { S.leads survey.old (call_changes (told_by reply_told result) call) survey.new }
+    ensures kept { call_changes (told_by reply_told result) call ≡ [] → (S.enters survey.new ≡ S.enters survey.old) × (S.amends survey.new ≡ S.amends survey.old) }
+    ensures plan { plan_state plan.new ≡ call_plan (S.legs survey.old) (plan_state plan.old) call }
 {
     match call {
         Call::Change(change) => make(survey, change),
@@ -72,11 +72,11 @@ fn answer<S: Survey>(survey: &mut S, plan: &mut Plan, call: Call) -> Result<Repl
 
 // Makes a change.
 fn make<S: Survey>(survey: &mut S, change: Change) -> Result<Reply, Refusal>
-    ensures answer { told_by reply_told result ≡ change_answer (legs survey.old) (enters survey.old) (amends survey.old) change }
+    ensures answer { told_by reply_told result ≡ change_answer (S.legs survey.old) (S.enters survey.old) (S.amends survey.old) change }
     ensures reply { Replies result Changed }
-    ensures list { legs survey.new ≡ change_legs (legs survey.old) (enters survey.old) (amends survey.old) change }
-    ensures led { leads survey.old (changes (told_by reply_told result) change) survey.new }
-    ensures kept { changes (told_by reply_told result) change ≡ [] → (enters survey.new ≡ enters survey.old) × (amends survey.new ≡ amends survey.old) }
+    ensures list { S.legs survey.new ≡ change_legs (S.legs survey.old) (S.enters survey.old) (S.amends survey.old) change }
+    ensures led { S.leads survey.old (changes (told_by reply_told result) change) survey.new }
+    ensures kept { changes (told_by reply_told result) change ≡ [] → (S.enters survey.new ≡ S.enters survey.old) × (S.amends survey.new ≡ S.amends survey.old) }
 {
     let result = match change {
         Change::Enter(leg) => survey.enter(leg),
@@ -95,8 +95,8 @@ fn make<S: Survey>(survey: &mut S, change: Change) -> Result<Reply, Refusal>
 
 // Asks for a leg.
 fn find<S: Survey>(survey: &S, i: usize) -> Result<Reply, Refusal>
-    ensures answer { told_by reply_told result ≡ query_answer (legs survey.now) i }
-    ensures reply { Replies result (Found (slice_index_or (legs survey.now) i no_leg)) }
+    ensures answer { told_by reply_told result ≡ query_answer (S.legs survey.now) i }
+    ensures reply { Replies result (Found (slice_index_or (S.legs survey.now) i no_leg)) }
 {
     match survey.leg(i) {
         Ok(leg) => Ok(Reply::Found(leg)),
@@ -111,9 +111,9 @@ fn make_plan<S: Survey>(
     leg: usize,
     side: u32,
 ) -> Result<Reply, Refusal>
-    ensures answer { told_by reply_told result ≡ plan_answer (legs survey.now) leg side }
+    ensures answer { told_by reply_told result ≡ plan_answer (S.legs survey.now) leg side }
     ensures reply { Replies result Planned }
-    ensures plan { plan_state plan.new ≡ planned_state (plan_answer (legs survey.now) leg side) (legs survey.now) leg side (plan_state plan.old) }
+    ensures plan { plan_state plan.new ≡ planned_state (plan_answer (S.legs survey.now) leg side) (S.legs survey.now) leg side (plan_state plan.old) }
 {
     match planning::plan(survey, plan, leg, side) {
         Ok(()) => Ok(Reply::Planned),

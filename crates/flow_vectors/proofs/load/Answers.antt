@@ -9,9 +9,9 @@ use Rattle.flow_vectors.proofs.load.Goals as goal
 pub loop-s-preserved : goal.loop-s-preserved
 loop-s-preserved c k h =
     ⊎_elim
-    (λ e. e.1 ∙ c.side_from_lem.ensures ∙ ap (side_from_lem c.args.numbers.now c.args.nodes) (sym e.0))
+    (λ e. e.1 ∙ c.side_from.ensures ∙ ap (side_from_lem c.args.numbers.now c.args.nodes) (sym e.0))
     (λ e. let ne = e.0 in e.1 ∙ c.loop-s.invariant k (omega arith))
-    (at_set c.loop-s.sides c.loop-s.s k c.side_from_lem.result no_side (omega (arith, c.loop-s-test.true, c.loop-s.auto.sides)))
+    (at_set c.loop-s.sides c.loop-s.s k c.side_from.result no_side (omega (arith, c.loop-s-test.true, c.loop-s.auto.sides)))
 
 pub returns : goal.returns
 returns c =

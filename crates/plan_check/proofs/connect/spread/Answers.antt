@@ -64,6 +64,6 @@ loop-i-preserved c =
     let la : from_at legs i < length c.loop-i.visited = let a = h.0 in omega arith in
     let lb : to_at legs i < length c.loop-i.visited = let a = h.1 in omega arith in
     elim c.if-is_half_visited.branch [
-      | then-is_half_visited w ↦ as_is legs c.args.visited.now _ _ (i + 1) _ _ (w.visited_is ∙ w.visit_both.ensures) w.changed-is (takes legs c.args.visited.now c.loop-i.visited i c.loop-i.changed c.loop-i.invariant (omega arith) la lb (differ _ _ (sym w.if-is_half_visited.ensures)))
-      | else-is_half_visited w ↦ as_is legs c.args.visited.now _ _ (i + 1) _ _ w.visited_is w.changed-is (keeps legs c.args.visited.now c.loop-i.visited i c.loop-i.changed c.loop-i.invariant (agree _ _ (sym w.if-is_half_visited.ensures)))
+      | then-is_half_visited w ↦ as_is legs c.args.visited.now _ _ (i + 1) _ _ (w.visited-is ∙ w.visit_both.ensures) w.changed-is (takes legs c.args.visited.now c.loop-i.visited i c.loop-i.changed c.loop-i.invariant (omega arith) la lb (differ _ _ (sym w.if-is_half_visited.ensures)))
+      | else-is_half_visited w ↦ as_is legs c.args.visited.now _ _ (i + 1) _ _ w.visited-is w.changed-is (keeps legs c.args.visited.now c.loop-i.visited i c.loop-i.changed c.loop-i.invariant (agree _ _ (sym w.if-is_half_visited.ensures)))
     ]
