@@ -80,37 +80,20 @@ invariant_of-drawing g c =
     let h : Filled c.count-count.result (units c.args.flow.now) (shape_of c.fill_large.new.large c.fill_bends.new.bends c.fill_bends-2.new.bends) = record { large = c.fill_large.ensures; left = c.fill_bends.ensures; right = c.fill_bends-2.ensures } in
     let past = ends_there (plan_legs p) c.count-count.result n (units c.args.flow.now) _ _ _ h in
     let v = tables_valid (plan_legs p) c.count-count.result n (units c.args.flow.now) _ _ _ h (outer_face p) c.requires.least.valid in
-    let z = shape_of c.fill_large.new.large c.fill_bends.new.bends c.fill_bends-2.new.bends in (
-      omega arith,
-      (
-        omega arith,
-        (
-          ap valid_legs same ∙ p.valid,
-          (
-            (λ t. is_accepted (plan_answer (same t) (o t) (s t))) ∙ p.accepted,
-            (
-              omega arith,
-              (
-                omega arith,
-                (
-                  omega arith,
-                  (
-                    λ e l. past.large e (omega arith),
-                    (
-                      λ i l. past.left i (omega arith),
-                      (
-                        λ i l. past.right i (omega arith),
-                        (subst (λ (xs : List Leg). (e : ℕ) → e < ends xs → large_at xs z e ≡ cond (switch xs e) 1 0) (sym same) v.angles, tt),
-                      ),
-                    ),
-                  ),
-                ),
-              ),
-            ),
-          ),
-        ),
-      ),
-    )
+    let z = shape_of c.fill_large.new.large c.fill_bends.new.bends c.fill_bends-2.new.bends in
+    record {
+      full = omega arith;
+      within = omega arith;
+      valid = ap valid_legs same ∙ p.valid;
+      accepted = (λ t. is_accepted (plan_answer (same t) (o t) (s t))) ∙ p.accepted;
+      wide = omega arith;
+      lefts = omega arith;
+      rights = omega arith;
+      blank = λ e l. past.large e (omega arith);
+      unbent = λ i l. past.left i (omega arith);
+      straight = λ i l. past.right i (omega arith);
+      angles = subst (λ (xs : List Leg). (e : ℕ) → e < ends xs → large_at xs z e ≡ cond (switch xs e) 1 0) (sym same) v.angles;
+    }
 
 pub returns : goal.returns
 returns g c =

@@ -27,16 +27,13 @@ invariant_of-plan g c =
     let legs = g.S.Survey.legs s in
     let table = c.read_legs.new.table in
     let n = c.args.count in
-    let b = count_in n c.args.leg c.args.side c.requires.request in (
-      omega arith,
-      (
-        b.1,
-        (
-          ap valid_legs c.read_legs.ensures ∙ g.S.Survey.valid s,
-          (accepts table legs n c.args.leg c.args.side c.read_legs.ensures c.requires.all c.requires.request c.in-Ok.ensures, tt),
-        ),
-      ),
-    )
+    let b = count_in n c.args.leg c.args.side c.requires.request in
+    record {
+      full = omega arith;
+      within = b.1;
+      valid = ap valid_legs c.read_legs.ensures ∙ g.S.Survey.valid s;
+      accepted = accepts table legs n c.args.leg c.args.side c.read_legs.ensures c.requires.all c.requires.request c.in-Ok.ensures;
+    }
 
 pub returns-in-Err : goal.returns-in-Err
 returns-in-Err g c =

@@ -10,7 +10,19 @@ use Rattle.draw.proofs.drawings.Drawing.new.Goals as goal
 pub invariant_of-result : goal.invariant_of-result
 unfolding next face joined
 invariant_of-result c =
-    (refl, (lit≤ tt, (refl, (refl, (refl, (refl, (refl, (λ e l. two_marked e ∙ le-ltb e 2 l, (λ i l. same_all {A = ℕ} 0 256 i, (λ i l. same_all {A = ℕ} 0 256 i, (λ e l. first_angles (shape_of first_large (replicate 256 0) (replicate 256 0)) refl refl e l, tt)))))))))))
+    record {
+      full = refl;
+      within = lit≤ tt;
+      valid = refl;
+      accepted = refl;
+      wide = refl;
+      lefts = refl;
+      rights = refl;
+      blank = λ e l. two_marked e ∙ le-ltb e 2 l;
+      unbent = λ i l. same_all {A = ℕ} 0 256 i;
+      straight = λ i l. same_all {A = ℕ} 0 256 i;
+      angles = λ e l. first_angles (shape_of first_large (replicate 256 0) (replicate 256 0)) refl refl e l;
+    }
 
 pub returns : goal.returns
 returns c = record { plan = refl; shape = record { large = two_marked; left = same_all {A = ℕ} 0 256; right = same_all {A = ℕ} 0 256 } }

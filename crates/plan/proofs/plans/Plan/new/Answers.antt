@@ -6,4 +6,4 @@ use Rattle.plan.proofs.plans.Plan.new.Goals as goal
 
 pub invariant_of-result : goal.invariant_of-result
 unfolding next face joined
-invariant_of-result c = (refl, (lit≤ tt, (refl, (refl, tt))))
+invariant_of-result c = record { full = refl; within = lit≤ tt; valid = refl; accepted = refl }
