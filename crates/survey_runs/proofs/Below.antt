@@ -1,5 +1,5 @@
 -- The states of a viewed survey, and of a lent one, read as those of the survey below.
-use Rattle.std.proofs.Common.{◌≡◌, Bool, List, map, refl, ap, subst, Bor, MutBor}
+use Rattle.std.proofs.Common.{◌≡◌, Bool, List, map, sym, refl, ap, subst, MutBor}
 use Rattle.survey.specs.declared.leg.Leg.{Leg}
 use Rattle.survey.specs.declared.leg.Change.{Change}
 use Rattle.view_laws.specs.Sent.{sent}
@@ -28,23 +28,20 @@ module _ {S : Type 0} (legs : S → List Leg) (enters amends : S → Bool) (lead
     led = λ u v cs k h. subst (λ w. leads u.below (map (sent (sends w)) (g cs)) v.below) k h.1;
   }
 
-  lent_read : (s : Bor S)
-      → Read (λ (t : Bor S). f (legs t.now)) (λ t. enters t.now) (λ t. amends t.now) (λ u cs v. Lent leads u (g cs) v)
+  lent_read : (s : MutBor S)
+      → Read (λ (t : MutBor S). f (legs t.now)) (λ t. enters t.now) (λ t. amends t.now) (λ u cs v. Lent leads u (g cs) v)
       (λ b. f (legs b)) enters amends (λ a cs b. leads a (g cs) b) (λ t. Unit {0}) (λ x. x.now) s
   lent_read s = record { kept = λ u cs h. tt; list = λ u k. refl; may_enter = λ u. refl; may_amend = λ u. refl; led = λ u v cs k h. h.1 }
 
 module _ {S : Type 0} (legs : S → List Leg) (enters amends : S → Bool) (leads : S → List Change → S → Type 0) (f : List Leg → List Leg) (g : List Change → List Change) where
   -- a run on a view of a lent survey is a run on the survey, as seen through the view
-  pub viewed_sent : {V : Type 0} (shows sends : V → Leg → Leg) (s : Viewed V (Bor S)) (before steps : List Step) (t : Viewed V (Bor S))
-      → Sent (λ (u : Viewed V (Bor S)). f (map (shows u.view) (legs u.below.now))) (λ u. enters u.below.now) (λ u. amends u.below.now) (λ u cs v. Through sends (Lent leads) u (g cs) v) s before steps t
+  pub viewed_sent : {V : Type 0} (shows sends : V → Leg → Leg) (s : Viewed V (MutBor S)) (before steps : List Step) (t : Viewed V (MutBor S))
+      → Sent (λ (u : Viewed V (MutBor S)). f (map (shows u.view) (legs u.below.now))) (λ u. enters u.below.now) (λ u. amends u.below.now) (λ u cs v. Through sends (Lent leads) u (g cs) v) s before steps t
       → Sent (λ b. f (map (shows s.view) (legs b))) enters amends (λ a cs b. leads a (map (sent (sends s.view)) (g cs)) b) s.below.now before steps t.below.now
   viewed_sent shows sends s before steps t h =
       sent_read (lent_read legs enters amends leads (λ x. f (map (shows s.view) x)) (λ cs. map (sent (sends s.view)) (g cs)) s.below) before steps t.below
-      (sent_read (view_read (λ (r : Bor S). legs r.now) (λ r. enters r.now) (λ r. amends r.now) (Lent leads) f g shows sends s) before steps t h)
+      (sent_read (view_read (λ (r : MutBor S). legs r.now) (λ r. enters r.now) (λ r. amends r.now) (Lent leads) f g shows sends s) before steps t h)
 
--- what holds of a state, as one piece
-pub data Of {S : Type 0} (P : S → Type 0) : S → Type 0 where
-  that : {t : S} → P t → Of P t
-
-pub of_it : {S : Type 0} (P : S → Type 0) (t : S) → Of P t → P t
-of_it P t (that p) = p
+-- what holds of a state holds of one that is the same
+pub along : {S : Type 0} (P : S → Type 0) (t u : S) → u ≡ t → P t → P u
+along P t u same p = subst P (sym same) p
