@@ -1,5 +1,5 @@
 -- Sides made by number are proper.
-use Rattle.std.proofs.Common.{◌≡◌, ℕ, ◌+◌, ◌-◌, ◌*◌, ◌/◌, ◌%◌, ◌<◌, ◌≤◌, min, eqb, ◌⊎◌, List, length, get_or, sym, ap, ◌∙◌, subst, ⊎_elim, mod-lt, arith}
+use Rattle.std.proofs.Common.{◌≡◌, ℕ, ◌+◌, ◌*◌, ◌/◌, ◌%◌, ◌<◌, ◌≤◌, min, eqb, List, length, get_or, sym, ap, ◌∙◌, subst, ⊎_elim, mod-lt, arith}
 use Rattle.search.specs.declared.Side.{Side}
 use Rattle.search.specs.Networks.{twin}
 use Rattle.search.specs.Sides.{side_at, Proper}

@@ -1,5 +1,5 @@
 -- What the laws of prices give: an order that adding keeps, and differences.
-use Rattle.std.proofs.Common.{◌≡◌, true, false, ◌⊎◌, sym, ap, ◌∙◌, ⊎_elim}
+use Rattle.std.proofs.Common.{◌≡◌, true, false, sym, ap, ◌∙◌, ⊎_elim}
 use Rattle.std.proofs.lemmas.Bool.{both_ways, cases_Bool}
 use Rattle.price.specs.Laws.{Ops, Laws}
 

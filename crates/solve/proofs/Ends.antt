@@ -1,5 +1,5 @@
 -- What a search at rest says of the flow: it is least, or no flow meets the demands, or a unit can be sent.
-use Rattle.std.proofs.Common.{◌≡◌, ℕ, ◌+◌, ◌<◌, true, ◌⊎◌, List, sym, ap, ◌∙◌, subst, inl, inr, ⊎_elim, arith}
+use Rattle.std.proofs.Common.{◌≡◌, ℕ, ◌+◌, ◌<◌, true, List, sym, ap, ◌∙◌, subst, inl, inr, ⊎_elim, arith}
 use Rattle.std.proofs.lemmas.Bool.{cases_lt}
 use Rattle.price.specs.Laws.{Ops, Laws}
 use Rattle.price.proofs.Order.{sub_add, kept_left}

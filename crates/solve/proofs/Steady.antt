@@ -1,5 +1,5 @@
 -- Potentials that no move undercuts, side by side, and what one unit over a tight side does to them.
-use Rattle.std.proofs.Common.{◌≡◌, ℕ, ◌<◌, true, ◌⊎◌, sym, ap, ◌∙◌, subst, ⊎_elim, arith}
+use Rattle.std.proofs.Common.{◌≡◌, ℕ, ◌<◌, true, sym, ap, ◌∙◌, subst, ⊎_elim, arith}
 use Rattle.price.specs.Laws.{Ops, Laws}
 use Rattle.price.proofs.Order.{le_refl, add_sub, sub_add, kept_left}
 use Rattle.search.specs.Moves.{Move}

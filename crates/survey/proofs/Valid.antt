@@ -1,10 +1,9 @@
 -- What keeps a list of legs valid: a leg entered, a stretch struck, a stretch amended.
 use Rattle.std.proofs.Common.{◌≡◌, ℕ, zero, suc, ◌-◌, ◌<◌, ◌≤◌, Bool, true, false, cond, not, ◌&&◌, ◌||◌, eqb, ltb, List, [], ◌∷◌, ◌++◌, map, length, get_or, take, drop, sym, refl, ap, ◌∙◌, arith}
 use Rattle.std.proofs.lemmas.List.Edits.{split_between}
-use Rattle.refusal.specs.Answers.{refuses}
 use Rattle.survey.specs.declared.leg.Leg.{Leg}
 use Rattle.survey.specs.declared.leg.Attributes.{Attributes}
-use Rattle.survey.specs.Model.{is_accepted, attributes_answer, attributes_of, no_station, valid_leg, apart, valid_legs, clash, first_clash, entered, struck, with_attributes, amended}
+use Rattle.survey.specs.Model.{is_accepted, attributes_answer, no_station, valid_leg, apart, valid_legs, clash, first_clash, entered, struck, with_attributes, amended}
 use Rattle.survey.proofs.Accepted.{in_range, pass_over}
 
 pub and_split : (a b : Bool) → (a && b) ≡ true → (a ≡ true) × (b ≡ true)

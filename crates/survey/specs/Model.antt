@@ -1,5 +1,5 @@
 -- The reference model of a survey: for a list of legs, what each call answers and which list it leaves.
-use Rattle.std.specs.Prelude.{ℕ, suc, ◌-◌, Bool, true, cond, not, ◌&&◌, ◌||◌, List, [], ◌∷◌, ◌++◌, map, length, take, drop, Result, ◌==◌, nat_lt, slice_index_or, slice_range}
+use Rattle.std.specs.Prelude.{ℕ, suc, Bool, true, cond, not, ◌&&◌, ◌||◌, List, [], ◌∷◌, ◌++◌, map, length, take, drop, Result, ◌==◌, nat_lt, slice_index_or, slice_range}
 use Rattle.refusal.specs.declared.Refusal.{Refusal}
 use Rattle.refusal.specs.Answers.{Answer, accepted, answers, refuses, told_by}
 use Rattle.survey.specs.declared.leg.Leg.{Leg}

@@ -1,5 +1,5 @@
 -- What the code's answers tell.
-use Rattle.std.specs.Prelude.{ℕ, Ok, Err, Result}
+use Rattle.std.specs.Prelude.{Ok, Err, Result}
 use Rattle.refusal.specs.Answers.{number_of, value_of}
 use Rattle.svx.specs.declared.fault.Fault.{Fault}
 use Rattle.svx.specs.Reading.{Outcome, through, stopped}

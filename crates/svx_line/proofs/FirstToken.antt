@@ -6,7 +6,7 @@ use Rattle.std.proofs.lemmas.Bool.Decides.{nat_tests}
 use Rattle.svx_fields.specs.declared.bytes.ByteClass.TheVariants.{Semicolon, Star}
 use Rattle.svx_fields.specs.declared.bytes.Scan.TheVariants.{ToField, ToGap}
 use Rattle.svx_fields.specs.Bytes.{before, stops_at, class_of}
-use Rattle.svx_line.specs.Tokens.{word, command, comment, sign_at, sign_of}
+use Rattle.svx_line.specs.Tokens.{word, command, sign_at, sign_of}
 
 -- the token after the blanks that the scan passed
 pub token_after_blanks : (xs : List ℕ) (start at m : ℕ) → m ≡ before (stops_at ToField) (take (length xs - at) (drop at xs)) → sign_at (start + (at + m)) (take (length xs - (at + m)) (drop (at + m) xs)) ≡ sign_of (start + at) (drop at xs)

@@ -1,5 +1,5 @@
 -- The digits before the last, and then the last.
-use Rattle.std.proofs.Common.{◌≡◌, ℕ, ◌+◌, ◌/◌, ◌%◌, List, set, decimal, ap, ◌∙◌, arith}
+use Rattle.std.proofs.Common.{ℕ, ◌+◌, ◌/◌, ◌%◌, List, set, decimal, ap, ◌∙◌, arith}
 use Rattle.report.specs.Output.{put}
 use Rattle.report.proofs.Puts.{put_digit, put_last_digit, one_digit, more_digits}
 use Rattle.report.proofs.+put_number.Goals as goal

@@ -1,5 +1,5 @@
 -- Refused with the bytes needed, or the pieces and a line feed written.
-use Rattle.std.proofs.Common.{◌≡◌, ℕ, ◌+◌, ◌≤◌, List, [], ◌∷◌, ◌++◌, length, ap, ◌∙◌, arith}
+use Rattle.std.proofs.Common.{◌≡◌, ℕ, ◌+◌, ◌≤◌, List, [], ◌∷◌, length, ap, ◌∙◌, arith}
 use Rattle.std.proofs.lemmas.List.{length_push}
 use Rattle.report.specs.Output.{put}
 use Rattle.report.specs.Pieces.{pieces_text, whole_text}

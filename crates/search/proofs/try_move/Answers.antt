@@ -1,7 +1,6 @@
 -- Each way through a try, by the labels that it read.
 use Rattle.std.proofs.Common.{refl, ap, ◌∙◌, arith}
 use Rattle.search.specs.declared.Label.{Label}
-use Rattle.search.specs.Labels.{label_at}
 use Rattle.search.proofs.Tries.{held_at, try_no_origin, try_no_gain, try_gain}
 use Rattle.search.proofs.try_move.Goals as goal
 

@@ -2,7 +2,7 @@
 use Rattle.std.proofs.Common.{suc, ◌<◌, length, take, sym, ap, ◌∙◌, subst, arith, ltb-true}
 use Rattle.search.specs.declared.Label.{Label}
 use Rattle.search.specs.Labels.{label_at}
-use Rattle.search.specs.Networks.{twin, units}
+use Rattle.search.specs.Networks.{units}
 use Rattle.search.specs.Sides.{network}
 use Rattle.search.proofs.Twins.{twin_by}
 use Rattle.search.proofs.Residual.{twin_within}

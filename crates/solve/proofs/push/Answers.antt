@@ -1,5 +1,5 @@
 -- The units after one was taken back or added.
-use Rattle.std.proofs.Common.{◌≡◌, ◌+◌, ◌-◌, ◌<◌, ◌⊎◌, length, set, sym, ap, ◌∙◌, subst, ⊎_elim, arith, get_or-set_other, get_or-set_same}
+use Rattle.std.proofs.Common.{◌≡◌, ◌+◌, ◌-◌, ◌<◌, length, set, sym, ap, ◌∙◌, subst, ⊎_elim, arith, get_or-set_other, get_or-set_same}
 use Rattle.search.specs.Networks.{twin, units}
 use Rattle.search.specs.Sides.{side_at}
 use Rattle.search.proofs.Twins.{twin_by, twin_inside}

@@ -1,5 +1,5 @@
 -- One node more is seeded.
-use Rattle.std.proofs.Common.{◌≡◌, cond, ltb, ◌⊎◌, List, length, take, sym, ap, ◌∙◌, subst, ⊎_elim, arith, length-set}
+use Rattle.std.proofs.Common.{◌≡◌, cond, ltb, List, length, take, sym, ap, ◌∙◌, subst, ⊎_elim, arith, length-set}
 use Rattle.std.proofs.lemmas.List.{get_or_past, length-take-le}
 use Rattle.std.proofs.lemmas.Bool.{cases_lt, cond-true, cond-false, lt-ltb, le-ltb}
 use Rattle.search.specs.declared.Label.{Label}
