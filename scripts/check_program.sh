@@ -1,9 +1,16 @@
 #!/usr/bin/env bash
 # Runs the built program on texts that it must accept and refuse, and compares standard output, the exit status and
-# whether standard error has one line. Build it first: rt check flow_diagram
+# whether standard error has one line. It builds the program first, which proves it and all below it.
 set -u
 cd "$(dirname "$0")/.."
-program=$PWD/target/bin/flow_diagram
+program=$PWD/crates/flow_diagram/out/flow_diagram
+rm -f "$program"
+# the program refuses an empty text, so its status here says nothing: what counts is that it was built
+(cd crates/flow_diagram && rt run </dev/null) >/dev/null 2>&1
+[ -x "$program" ] || {
+    echo "flow_diagram was not built"
+    exit 1
+}
 work=$(mktemp -d)
 trap 'rm -rf "$work"' EXIT
 bad=0

@@ -4,7 +4,7 @@
 Run from the root of the repository, and then check:
 
     python3 scripts/make_run_vectors.py > crates/run_vectors/stdin
-    rt check run_vectors
+    cd crates/run_vectors && rt run < stdin
 
 The calls are sent through three views (declination, reversed, mirrored, from the top) over a survey journal and,
 the same calls, over a survey table. This script knows nothing of the library: it models a survey by a Python list,

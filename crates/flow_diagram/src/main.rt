@@ -14,6 +14,7 @@ use search::{Label, NO_PRICE};
 use slice_vec::SliceVec;
 use std::io;
 use std::io::{Read, Write};
+use std::process::ExitCode;
 use svx::fault::Fault;
 use svx::read;
 use table::SurveyTable;
@@ -26,7 +27,7 @@ fn read_input(rt: &HostRuntime) -> io::Result<Vec<u8>> {
     Ok(bytes)
 }
 
-// What ends the program with status 1.
+// What ends the program where an account does not fit its buffer, which cannot be.
 fn failure() -> io::Error {
     io::Error::from(io::ErrorKind::InvalidData)
 }
@@ -52,20 +53,20 @@ fn print_refusal(rt: &HostRuntime, cause: &Refusal, line: usize) -> io::Result<(
 }
 
 // A fault in the text: the refusal, and where it is.
-fn refuse_text(rt: &HostRuntime, fault: &Fault) -> io::Result<()> {
+fn refuse_text(rt: &HostRuntime, fault: &Fault) -> io::Result<ExitCode> {
     print_refusal(rt, &fault.cause, fault.line)?;
     let line = fault.line;
     let place = fault.place;
     eprint!(rt; "line {line}, byte {place}: ")?;
     complain(rt, &fault.cause)?;
-    Err(failure())
+    Ok(ExitCode::FAILURE)
 }
 
 // A cave that cannot be planned or drawn.
-fn refuse_cave(rt: &HostRuntime, cause: &Refusal) -> io::Result<()> {
+fn refuse_cave(rt: &HostRuntime, cause: &Refusal) -> io::Result<ExitCode> {
     print_refusal(rt, cause, 0)?;
     complain(rt, cause)?;
-    Err(failure())
+    Ok(ExitCode::FAILURE)
 }
 
 fn print_summary(rt: &HostRuntime, drawing: &Drawing) -> io::Result<()> {
@@ -100,7 +101,7 @@ fn draw_cave(table: &mut SurveyTable, drawing: &mut Drawing) -> Result<(), Refus
     }
 }
 
-fn main(rt: HostRuntime) -> io::Result<()> {
+fn main(rt: HostRuntime) -> io::Result<ExitCode> {
     let text = read_input(&rt)?;
     let mut table = SurveyTable::new();
     let mut drawing = Drawing::new();
@@ -108,7 +109,10 @@ fn main(rt: HostRuntime) -> io::Result<()> {
         Err(fault) => refuse_text(&rt, &fault),
         Ok(()) => match draw_cave(&mut table, &mut drawing) {
             Err(cause) => refuse_cave(&rt, &cause),
-            Ok(()) => print_summary(&rt, &drawing),
+            Ok(()) => {
+                print_summary(&rt, &drawing)?;
+                Ok(ExitCode::SUCCESS)
+            }
         },
     }
 }
