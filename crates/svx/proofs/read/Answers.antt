@@ -48,7 +48,7 @@ returns-in-Err g c =
     let n = c.next_line.new.self in
     let f = c.in-Err.fault in
     let e = moved c.args.text.now _ r.place n.place x c.loop-x.invariant.0 c.in-Some.ensures.lines in
-    let run = short m c.args.text.now c.args.survey.now (fault_told f) c.read_line.new.survey c.if-text-gt-MOST_BYTES.false
+    let run = short m c.args.text.now c.args.survey.now (fault_told f) c.read_line.new.survey (omega arith)
     (onward_stop m c.args.text.now r.place r.line n.place n.line c.args.survey.now c.loop-x.survey c.read_line.new.survey x e c.in-Some.ensures.line c.loop-x.invariant.2 (fault_told f) (not_through f) c.in-Err.ensures) in
     record { run = run; exactly = exactly m (script c.args.text.now) c.args.survey.now (fault_told f) c.read_line.new.survey run }
 
@@ -57,6 +57,6 @@ returns g c =
     let m = means g.S.Survey.legs g.S.Survey.enters g.S.Survey.amends g.S.Survey.leads in
     let n = c.in_default.ensures.last refl in
     let k = ap length c.loop-x.invariant.0 in
-    let run = short m c.args.text.now c.args.survey.now through c.loop-x.survey c.if-text-gt-MOST_BYTES.false
+    let run = short m c.args.text.now c.args.survey.now through c.loop-x.survey (omega arith)
     (onward_end m c.args.text.now c.loop-x.reader.place c.loop-x.reader.line c.args.survey.now c.loop-x.survey (left_none c.args.text.now c.loop-x.reader.place (omega arith)) c.loop-x.invariant.2) in
     record { run = run; exactly = exactly m (script c.args.text.now) c.args.survey.now through c.loop-x.survey run }
