@@ -2,7 +2,7 @@
 ghost use Rattle.std.specs.Prelude.{◌≡◌, ◌+◌, ◌^◌, ◌<◌, [], map, length};
 ghost use Rattle.svx_line.specs.Spans.{fields_from};
 ghost use Rattle.svx_line.specs.Tokens.{span_of};
-ghost use Rattle.svx_line.specs.Verdicts.{reads as ReadsWord, data_normal, five_verdict, leg_verdict, command_verdict, verdict};
+ghost use Rattle.svx_line.specs.Verdicts.{reads as reads_word, data_normal, five_verdict, leg_verdict, command_verdict, verdict};
 ghost use Rattle.svx_line.specs.Told.{offer_told, line_told};
 
 use crate::lexer::{split_fields, token};
@@ -15,7 +15,7 @@ use svx_fields::{compass, reading, station};
 // Field i is this word.
 fn reads(all: &[Part], i: usize, word: &[u8]) -> bool
     requires { i < length all.now }
-    ensures { result ≡ ReadsWord (map span_of all.now) i word.now }
+    ensures { result ≡ reads_word (map span_of all.now) i word.now }
 {
     all[i].bytes == word
 }
