@@ -4,15 +4,16 @@
 set -u
 cd "$(dirname "$0")/.."
 program=$PWD/crates/flow_diagram/out/flow_diagram
+work=$(mktemp -d)
+trap 'rm -rf "$work"' EXIT
 rm -f "$program"
 # the program refuses an empty text, so its status here says nothing: what counts is that it was built
-(cd crates/flow_diagram && rt run </dev/null) >/dev/null 2>&1
+(cd crates/flow_diagram && rt run </dev/null) >"$work/build" 2>&1
 [ -x "$program" ] || {
+    tail -n 20 "$work/build"
     echo "flow_diagram was not built"
     exit 1
 }
-work=$(mktemp -d)
-trap 'rm -rf "$work"' EXIT
 bad=0
 total=0
 

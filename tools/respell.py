@@ -3,6 +3,9 @@
 
 usage: python3 tools/respell.py [--check]      at the top of the repository
 
+It was run once, on the tree that the kit's port.py had left, and is kept to show how the names came about: on a tree with
+the new names it may take a name that Rattle makes for one of ours.
+
 Turns definitions, lemmas, fields and variables of specs/ and proofs/, and where clauses, must-fail edits and code spans of
 the documents name them. In answers, a name that Rattle makes keeps its dashes, and the parts of it that are names of src/
 get their underscores back. Names that a file imports from a library stay. --check writes nothing. Two names of one file

@@ -1,5 +1,5 @@
 -- The states of a viewed survey, and of a lent one, read as those of the survey below.
-use Rattle.std.proofs.Common.{◌≡◌, Bool, List, map, sym, refl, ap, subst, MutBor}
+use Rattle.std.proofs.Common.{◌≡◌, Bool, List, map, refl, ap, subst, MutBor}
 use Rattle.survey.specs.declared.leg.Leg.{Leg}
 use Rattle.survey.specs.declared.leg.Change.{Change}
 use Rattle.view_laws.specs.Sent.{sent}
@@ -41,7 +41,3 @@ module _ {S : Type 0} (legs : S → List Leg) (enters amends : S → Bool) (lead
   viewed_sent shows sends s before steps t h =
       sent_read (lent_read legs enters amends leads (λ x. f (map (shows s.view) x)) (λ cs. map (sent (sends s.view)) (g cs)) s.below) before steps t.below
       (sent_read (view_read (λ (r : MutBor S). legs r.now) (λ r. enters r.now) (λ r. amends r.now) (Lent leads) f g shows sends s) before steps t h)
-
--- what holds of a state holds of one that is the same
-pub along : {S : Type 0} (P : S → Type 0) (t u : S) → u ≡ t → P t → P u
-along P t u same p = subst P (sym same) p

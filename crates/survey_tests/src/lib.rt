@@ -49,7 +49,6 @@ fn bearing<S: Survey>(s: &S, i: usize) -> Option<u32>
 mod tests {
     use super::*;
     use journal::SurveyJournal;
-    use std::process::Abort;
     use survey::leg::{Attributes, Change};
     use table::SurveyTable;
     use views::{Declination, Mirrored, Reversed, Viewed};
@@ -57,10 +56,10 @@ mod tests {
     const UNUSED: Change = Change::Strike { start: 7, end: 3 };
 
     // Bearing 3,599 is accepted and told again, and 3,600 is refused with its value.
-    fn edge_of_bearings<S: Survey>(rt: &impl Abort, s: &mut S) {
-        assert!(rt; told(s.enter(leg(1, 2, 3599))) == (0, 0));
-        assert!(rt; bearing(s, 0) == Some(3599));
-        assert!(rt; told(s.enter(leg(3, 4, 3600))) == (3, 3600));
+    fn edge_of_bearings<S: Survey>(s: &mut S) -> bool {
+        told(s.enter(leg(1, 2, 3599))) == (0, 0)
+            && bearing(s, 0) == Some(3599)
+            && told(s.enter(leg(3, 4, 3600))) == (3, 3600)
     }
 
     #[test]
@@ -69,19 +68,19 @@ mod tests {
             view: Declination::new(10),
             below: SurveyTable::new(),
         };
-        edge_of_bearings(&rt, &mut turned);
+        assert!(rt; edge_of_bearings(&mut turned));
         assert!(rt; bearing(&turned.below, 0) == Some(3589));
         let mut reversed = Viewed {
             view: Reversed,
             below: SurveyTable::new(),
         };
-        edge_of_bearings(&rt, &mut reversed);
+        assert!(rt; edge_of_bearings(&mut reversed));
         assert!(rt; bearing(&reversed.below, 0) == Some(1799));
         let mut mirrored = Viewed {
             view: Mirrored,
             below: SurveyTable::new(),
         };
-        edge_of_bearings(&rt, &mut mirrored);
+        assert!(rt; edge_of_bearings(&mut mirrored));
         assert!(rt; bearing(&mirrored.below, 0) == Some(1));
     }
 
@@ -101,7 +100,7 @@ mod tests {
             view: Declination::new(10),
             below: middle,
         };
-        edge_of_bearings(&rt, &mut top);
+        assert!(rt; edge_of_bearings(&mut top));
         // 3599 - 10 = 3589, turned round 1789, mirrored 1811
         assert!(rt; bearing(&journal, 0) == Some(1811));
     }
