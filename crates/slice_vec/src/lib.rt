@@ -1,7 +1,7 @@
 // A vector of fixed capacity over a lent slice, written once for every kind of record.
 #![tactic(auto)]
 
-ghost use Rattle.std.specs.Prelude.{◌≡◌, ◌<◌, length, take, slice_index_or};
+ghost use Rattle.std.specs.Prelude.{◌≡◌, ◌≤◌, length, take};
 ghost use Rattle.refusal.specs.Answers.{told};
 ghost use Rattle.slice_vec.specs.Places.{item_read, append_answer, append_used, append_places, at_answer, at_item, replace_places};
 
@@ -14,6 +14,7 @@ mod size;
 pub struct SliceVec<'a, T> {
     places: &'a mut [T],
     used: usize,
+    ghost within: { used ≤ length places.now },
 }
 
 impl<'a, T: Copy> SliceVec<'a, T> {
@@ -46,10 +47,10 @@ impl<'a, T: Copy> SliceVec<'a, T> {
         ensures answer { told result ≡ at_answer self.now.used (length self.now.places.now) i }
         ensures item { item_read result ≡ at_item self.now.places.now self.now.used i }
     {
-        if i >= self.used || i >= self.places.len() {
-            return Err(Refusal::PastCount(self.used));
-        }
-        Ok(at(self.places, i))
+        self.as_slice()
+            .get(i)
+            .copied()
+            .ok_or(Refusal::PastCount(self.used))
     }
 
     /// Puts a record in the place of the one at an index that is in use.
@@ -59,7 +60,7 @@ impl<'a, T: Copy> SliceVec<'a, T> {
         ensures places { self.new.places.now ≡ replace_places self.old.places.now self.old.used i item }
         ensures lender { self.new.places.ghost_name ≡ self.old.places.ghost_name }
     {
-        if i >= self.used || i >= self.places.len() {
+        if i >= self.used {
             return Err(Refusal::PastCount(self.used));
         }
         self.places[i] = item;
@@ -70,21 +71,6 @@ impl<'a, T: Copy> SliceVec<'a, T> {
     pub fn as_slice(&self) -> &[T]
         ensures { result.now ≡ take self.now.used self.now.places.now }
     {
-        front(self.places, self.used)
+        &self.places[..self.used]
     }
-}
-
-// The record at an index of a slice.
-fn at<T: Copy>(s: &[T], i: usize) -> T
-    requires { i < length s.now }
-    ensures { result ≡ slice_index_or s.now i result }
-{
-    s[i]
-}
-
-// The first n records of a slice, or all where it has fewer.
-fn front<T>(s: &[T], n: usize) -> &[T]
-    ensures { result.now ≡ take n s.now }
-{
-    if n < s.len() { &s[0..n] } else { s }
 }
