@@ -3,6 +3,8 @@
 
 ghost use Rattle.embedding.specs.Laws.{EmbeddingStands};
 
+pub mod outer;
+
 /// For every list that a survey can hold: rotations permute the ends of each station, face walks close and part the
 /// ends into faces that their names tell apart, each angle lies in one face, and joined legs are found.
 pub fn embedding_stands() -> u8

@@ -1,5 +1,5 @@
 -- What a plan holds, and what planning and turning leave.
-use Rattle.std.specs.Prelude.{◌≡◌, ℕ, cond, List, [], ◌∷◌, take, ℤ, Some, None, Ok, Err, Option, Result, nat_lt}
+use Rattle.std.specs.Prelude.{◌≡◌, ℕ, cond, List, [], ◌∷◌, ℤ, Some, None, Ok, Err, Option, Result, nat_lt}
 use Rattle.refusal.specs.Answers.{Answer, accepted, refused}
 use Rattle.survey.specs.declared.leg.Leg.{Leg}
 use Rattle.survey.specs.Ends.{ends}
@@ -11,7 +11,7 @@ use Rattle.plan.specs.declared.turning.Turned.{Turned}
 
 -- the legs of a plan
 abbrev pub plan_legs : Plan → List Leg
-plan_legs p = take p.count p.legs
+plan_legs p = p.legs.items
 
 -- what a plan tells: its legs, and its outer side
 pub record PlanState : Type 0 where
@@ -23,7 +23,7 @@ abbrev pub state : List Leg → (outer side : ℕ) → PlanState
 state legs outer side = record { legs = legs; outer = outer; side = side }
 
 abbrev pub plan_state : Plan → PlanState
-plan_state p = state (plan_legs p) p.outer p.side
+plan_state p = state (plan_legs p) p.outer.leg p.outer.side
 
 -- the one leg of a new plan
 abbrev pub first_leg : Leg
@@ -39,7 +39,7 @@ planned_state a legs outer side was = cond (is_accepted a) (state legs outer sid
 
 -- the outer face of a plan
 abbrev pub outer_face : Plan → ℕ
-outer_face p = face (plan_legs p) (side_end p.outer p.side)
+outer_face p = face (plan_legs p) (side_end p.outer.leg p.outer.side)
 
 -- the face of an end of a plan
 abbrev pub face_at : Plan → ℕ → Option ℕ

@@ -6,6 +6,8 @@ ghost use Rattle.embedding.specs.Rotation.{faces as faces_of, side_end};
 ghost use Rattle.plan.specs.States.{plan_legs, plan_state, new_state, face_at, demand_at};
 
 use crate::plans::Plan;
+use arrayvec::ArrayVec;
+use embedding::outer::OuterSide;
 use faces::{demand_of, fill_faces};
 use refusal::Refusal;
 use rotation::{count_stations, fill_next};
@@ -17,19 +19,18 @@ impl Plan {
     pub fn new() -> Plan
         ensures { plan_state result ≡ new_state }
     {
-        let leg = Leg {
+        let mut legs = ArrayVec::new();
+        legs.push(Leg {
             from: 1,
             to: 2,
             bearing: 0,
             weight: 1,
             wet: 0,
             limit: 999,
-        };
+        });
         Plan {
-            legs: [leg; 256],
-            count: 1,
-            outer: 0,
-            side: 0,
+            legs,
+            outer: OuterSide { leg: 0, side: 0 },
         }
     }
 
@@ -37,14 +38,14 @@ impl Plan {
     pub fn as_slice(&self) -> &[Leg]
         ensures { result.now ≡ plan_legs self.now }
     {
-        &self.legs[0..self.count]
+        self.legs.as_slice()
     }
 
     /// The number of legs.
     pub fn count(&self) -> usize
         ensures { result ≡ length (plan_legs self.now) }
     {
-        self.count
+        self.legs.len()
     }
 
     /// Leg i.
@@ -56,23 +57,23 @@ impl Plan {
 
     /// The leg of the outer side.
     pub fn outer_leg(&self) -> usize
-        ensures { result ≡ self.now.outer }
+        ensures { result ≡ self.now.outer.leg }
     {
-        self.outer
+        self.outer.leg
     }
 
     /// The side of that leg, 0 for its left or 1 for its right.
     pub fn outer_side(&self) -> u32
-        ensures { result ≡ self.now.side }
+        ensures { result ≡ self.now.outer.side }
     {
-        self.side
+        self.outer.side
     }
 
     /// The end whose face is the outer one.
     pub fn outer_end(&self) -> usize
-        ensures { result ≡ side_end self.now.outer self.now.side }
+        ensures { result ≡ side_end self.now.outer.leg self.now.outer.side }
     {
-        2 * self.outer_leg() + self.outer_side() as usize
+        2 * self.outer.leg + self.outer.side as usize
     }
 
     /// The number of stations.
@@ -86,14 +87,14 @@ impl Plan {
     pub fn faces(&self) -> usize
         ensures { result ≡ faces_of (plan_legs self.now) }
     {
-        2 + self.count - self.stations()
+        2 + self.count() - self.stations()
     }
 
     /// The face of an end, named by the lowest end on it; none where there is no such end.
     pub fn face(&self, end: usize) -> Option<usize>
         ensures { result ≡ face_at self.now end }
     {
-        if end >= 2 * self.count {
+        if end >= 2 * self.count() {
             return None;
         }
         let legs = self.as_slice();
@@ -108,7 +109,7 @@ impl Plan {
     pub fn demand(&self, end: usize) -> Option<i64>
         ensures { result ≡ demand_at self.now end }
     {
-        if end >= 2 * self.count {
+        if end >= 2 * self.count() {
             return None;
         }
         Some(demand_of(self.as_slice(), self.outer_end(), end))

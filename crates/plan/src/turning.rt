@@ -4,6 +4,7 @@ ghost use Rattle.embedding.specs.Plans.{side_answer};
 ghost use Rattle.plan.specs.States.{plan_legs, told_turn, Turns};
 
 use crate::plans::Plan;
+use embedding::outer::OuterSide;
 use plan_check::check_side;
 use refusal::Refusal;
 
@@ -15,17 +16,15 @@ pub struct Turned {
 }
 
 /// Takes a plan away, and gives back one of the same legs with the outer side asked for.
-pub fn turn(plan: Plan, leg: usize, side: u32) -> Result<Plan, Turned>
-    ensures answer { told_turn result ≡ side_answer (length (plan_legs plan)) leg side }
-    ensures state { Turns plan leg side result }
+pub fn turn(plan: Plan, outer: OuterSide) -> Result<Plan, Turned>
+    ensures answer { told_turn result ≡ side_answer (length (plan_legs plan)) outer.leg outer.side }
+    ensures state { Turns plan outer.leg outer.side result }
 {
-    let mut plan = plan;
-    match check_side(plan.count, leg, side) {
+    match check_side(plan.count(), outer.leg, outer.side) {
+        Ok(()) => Ok(Plan {
+            legs: plan.legs,
+            outer,
+        }),
         Err(refusal) => Err(Turned { plan, refusal }),
-        Ok(()) => {
-            plan.outer = leg;
-            plan.side = side;
-            Ok(plan)
-        }
     }
 }

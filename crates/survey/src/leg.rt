@@ -1,5 +1,5 @@
 /// A surveyed leg: six whole numbers. Water runs from `from` to `to`.
-#[derive(Clone, Copy)]
+#[derive(Clone, Copy, Debug, Default, PartialEq, Eq, Hash)]
 pub struct Leg {
     /// The station it leaves, 1 to 9,999.
     pub from: u32,

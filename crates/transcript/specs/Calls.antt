@@ -1,5 +1,5 @@
 -- The reference model of every call: what it answers and which list it leaves, given the list and what may be done.
-use Rattle.std.specs.Prelude.{◌≡◌, Bool, cond, List, [], length, Ok, Err, Result, slice_index_or}
+use Rattle.std.specs.Prelude.{◌≡◌, Bool, cond, List, [], length, Ok, Err, Result, Option, Some, None, slice_index_or}
 use Rattle.refusal.specs.declared.Refusal.{Refusal}
 use Rattle.refusal.specs.Answers.{Answer, tells}
 use Rattle.survey.specs.declared.leg.Leg.{Leg}
@@ -31,7 +31,7 @@ call_answer legs enters amends Count = tells (length legs)
 call_answer legs enters amends (LegAt i) = query_answer legs i
 call_answer legs enters amends MayEnter = tells (cond enters 1 0)
 call_answer legs enters amends MayAmend = tells (cond amends 1 0)
-call_answer legs enters amends (Plan leg side) = plan_answer legs leg side
+call_answer legs enters amends (Plan o) = plan_answer legs o.leg o.side
 
 -- a query and a plan leave the list as it is
 abbrev pub call_legs : List Leg → (enters amends : Bool) → Call → List Leg
@@ -40,7 +40,7 @@ call_legs legs enters amends Count = legs
 call_legs legs enters amends (LegAt i) = legs
 call_legs legs enters amends MayEnter = legs
 call_legs legs enters amends MayAmend = legs
-call_legs legs enters amends (Plan leg side) = legs
+call_legs legs enters amends (Plan o) = legs
 
 -- the reply to a call that is accepted
 abbrev pub call_reply : List Leg → (enters amends : Bool) → Call → Reply
@@ -49,12 +49,17 @@ call_reply legs enters amends Count = Counted (length legs)
 call_reply legs enters amends (LegAt i) = Found (slice_index_or legs i no_leg)
 call_reply legs enters amends MayEnter = Allowed enters
 call_reply legs enters amends MayAmend = Allowed amends
-call_reply legs enters amends (Plan leg side) = Planned
+call_reply legs enters amends (Plan o) = Planned
 
 -- an answer that is no refusal is this reply
 abbrev pub Replies : Result Reply Refusal → Reply → Type 0
 Replies (Ok r) reply = r ≡ reply
 Replies (Err e) reply = Unit {0}
+
+-- a call was sent, and its answer, if no refusal, is this reply
+abbrev pub Replied : Option (Result Reply Refusal) → Reply → Type 0
+Replied None reply = ⊥
+Replied (Some r) reply = Replies r reply
 
 -- what a call changed, by its answer
 abbrev pub call_changes : Answer → Call → List Changing
@@ -63,7 +68,7 @@ call_changes a Count = []
 call_changes a (LegAt i) = []
 call_changes a MayEnter = []
 call_changes a MayAmend = []
-call_changes a (Plan leg side) = []
+call_changes a (Plan o) = []
 
 -- the plan after a call: an accepted call to plan gives it the legs of that moment and the side asked for
 abbrev pub call_plan : List Leg → PlanState → Call → PlanState
@@ -72,4 +77,4 @@ call_plan legs p Count = p
 call_plan legs p (LegAt i) = p
 call_plan legs p MayEnter = p
 call_plan legs p MayAmend = p
-call_plan legs p (Plan leg side) = planned_state (plan_answer legs leg side) legs leg side p
+call_plan legs p (Plan o) = planned_state (plan_answer legs o.leg o.side) legs o.leg o.side p

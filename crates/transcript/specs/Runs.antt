@@ -7,7 +7,7 @@ use Rattle.transcript.specs.declared.step.Call.{Call}
 use Rattle.transcript.specs.declared.step.Call.TheVariants.{Count}
 use Rattle.transcript.specs.declared.step.Step.{Step}
 use Rattle.transcript.specs.Steps.{unsent, step_told}
-use Rattle.transcript.specs.Calls.{call_answer, call_legs, call_reply, Replies, call_changes, call_plan}
+use Rattle.transcript.specs.Calls.{call_answer, call_legs, call_reply, Replied, call_changes, call_plan}
 
 abbrev pub calls : List Step → List Call
 calls steps = map (λ (x : Step). x.call) steps
@@ -40,7 +40,7 @@ run_changes (x ∷ steps) = step_changes x ++ run_changes steps
 -- a step records the answer that the model gives on this list
 pub record Answered (legs : List Leg) (x : Step) : Type 0 where
   pub answer : step_told x ≡ call_answer legs x.may_enter x.may_amend x.call
-  pub reply : Replies x.answer (call_reply legs x.may_enter x.may_amend x.call)
+  pub reply : Replied x.answer (call_reply legs x.may_enter x.may_amend x.call)
 
 module _ {S : Type 0} (legs : S → List Leg) (enters amends : S → Bool) (leads : S → List Change → S → Type 0) where
   -- a call was sent in one state of a survey, and left another

@@ -15,6 +15,7 @@ ghost use Rattle.transcript.specs.Runs.{run_plan, Recorded, Sent};
 
 pub mod step;
 
+use embedding::outer::OuterSide;
 use plan::planning;
 use plan::plans::Plan;
 use refusal::Refusal;
@@ -28,9 +29,8 @@ pub fn send<S: Survey>(survey: &mut S, steps: &mut [Step], plan: &mut Plan)
     ensures sent { Sent S.legs S.enters S.amends S.leads survey.old steps.old steps.new survey.new }
     ensures plan { plan_state plan.new ≡ run_plan (S.legs survey.old) (plan_state plan.old) steps.new }
 {
-    for i in 0..steps.len() {
-        let sent = send_one(survey, plan, steps[i].call);
-        steps[i] = sent;
+    for step in steps.iter_mut() {
+        *step = send_one(survey, plan, step.call);
     }
 }
 
@@ -42,7 +42,7 @@ fn send_one<S: Survey>(survey: &mut S, plan: &mut Plan, call: Call) -> Step
 {
     let may_enter = (*survey).may_enter();
     let may_amend = (*survey).may_amend();
-    let answer = answer(survey, plan, call);
+    let answer = Some(answer(survey, plan, call));
     Step {
         call,
         may_enter,
@@ -66,7 +66,7 @@ fn answer<S: Survey>(survey: &mut S, plan: &mut Plan, call: Call) -> Result<Repl
         Call::LegAt(i) => find(survey, i),
         Call::MayEnter => Ok(Reply::Allowed((*survey).may_enter())),
         Call::MayAmend => Ok(Reply::Allowed((*survey).may_amend())),
-        Call::Plan { leg, side } => make_plan(survey, plan, leg, side),
+        Call::Plan(outer) => make_plan(survey, plan, outer),
     }
 }
 
@@ -78,19 +78,16 @@ fn make<S: Survey>(survey: &mut S, change: Change) -> Result<Reply, Refusal>
     ensures led { S.leads survey.old (changes (told_by reply_told result) change) survey.new }
     ensures kept { changes (told_by reply_told result) change ≡ [] → (S.enters survey.new ≡ S.enters survey.old) × (S.amends survey.new ≡ S.amends survey.old) }
 {
-    let result = match change {
-        Change::Enter(leg) => survey.enter(leg),
-        Change::Strike { start, end } => survey.strike(start, end),
+    match change {
+        Change::Enter(leg) => survey.enter(leg)?,
+        Change::Strike { start, end } => survey.strike(start, end)?,
         Change::Amend {
             start,
             end,
             attributes,
-        } => survey.amend(start, end, attributes),
-    };
-    match result {
-        Ok(()) => Ok(Reply::Changed),
-        Err(e) => Err(e),
+        } => survey.amend(start, end, attributes)?,
     }
+    Ok(Reply::Changed)
 }
 
 // Asks for a leg.
@@ -98,25 +95,15 @@ fn find<S: Survey>(survey: &S, i: usize) -> Result<Reply, Refusal>
     ensures answer { told_by reply_told result ≡ query_answer (S.legs survey.now) i }
     ensures reply { Replies result (Found (slice_index_or (S.legs survey.now) i no_leg)) }
 {
-    match survey.leg(i) {
-        Ok(leg) => Ok(Reply::Found(leg)),
-        Err(e) => Err(e),
-    }
+    Ok(Reply::Found(survey.leg(i)?))
 }
 
 // Plans the legs.
-fn make_plan<S: Survey>(
-    survey: &S,
-    plan: &mut Plan,
-    leg: usize,
-    side: u32,
-) -> Result<Reply, Refusal>
-    ensures answer { told_by reply_told result ≡ plan_answer (S.legs survey.now) leg side }
+fn make_plan<S: Survey>(survey: &S, plan: &mut Plan, outer: OuterSide) -> Result<Reply, Refusal>
+    ensures answer { told_by reply_told result ≡ plan_answer (S.legs survey.now) outer.leg outer.side }
     ensures reply { Replies result Planned }
-    ensures plan { plan_state plan.new ≡ planned_state (plan_answer (S.legs survey.now) leg side) (S.legs survey.now) leg side (plan_state plan.old) }
+    ensures plan { plan_state plan.new ≡ planned_state (plan_answer (S.legs survey.now) outer.leg outer.side) (S.legs survey.now) outer.leg outer.side (plan_state plan.old) }
 {
-    match planning::plan(survey, plan, leg, side) {
-        Ok(()) => Ok(Reply::Planned),
-        Err(e) => Err(e),
-    }
+    planning::plan(survey, plan, outer)?;
+    Ok(Reply::Planned)
 }

@@ -2,11 +2,12 @@
 ghost use Rattle.std.specs.Prelude.{◌≡◌};
 ghost use Rattle.transcript.specs.Steps.{unsent};
 
+use embedding::outer::OuterSide;
 use refusal::Refusal;
 use survey::leg::{Change, Leg};
 
 /// A call to a survey: a change, a query, which changes nothing, or a call to plan it.
-#[derive(Clone, Copy)]
+#[derive(Clone, Copy, Debug, PartialEq, Eq, Hash)]
 pub enum Call {
     /// Enter, strike or amend.
     Change(Change),
@@ -18,15 +19,13 @@ pub enum Call {
     MayEnter,
     /// Whether legs may be struck and amended.
     MayAmend,
-    /// Plan the legs, with this side of this leg as the outer side.
-    Plan { leg: usize, side: u32 },
+    /// Plan the legs, with this side of a leg as the outer side.
+    Plan(OuterSide),
 }
 
 /// What an accepted call tells.
-#[derive(Clone, Copy)]
+#[derive(Clone, Copy, Debug, PartialEq, Eq, Hash)]
 pub enum Reply {
-    /// Nothing: the call has not been sent.
-    Unsent,
     /// The change was made.
     Changed,
     /// The number of legs.
@@ -40,12 +39,13 @@ pub enum Reply {
 }
 
 /// A call, what the survey allowed just before it, and how it was answered.
-#[derive(Clone, Copy)]
+#[derive(Clone, Copy, Debug, PartialEq, Eq, Hash)]
 pub struct Step {
     pub call: Call,
     pub may_enter: bool,
     pub may_amend: bool,
-    pub answer: Result<Reply, Refusal>,
+    /// None until the call is sent.
+    pub answer: Option<Result<Reply, Refusal>>,
 }
 
 impl Step {
@@ -57,7 +57,7 @@ impl Step {
             call,
             may_enter: false,
             may_amend: false,
-            answer: Ok(Reply::Unsent),
+            answer: None,
         }
     }
 }

@@ -12,30 +12,30 @@ use Rattle.transcript.specs.Runs.{run_plan}
 use Rattle.transcript.proofs.Traces.{Trace, push_set, calls_set, plan_set, trace_list, trace_sent}
 use Rattle.transcript.proofs.send.Goals as goal
 
-pub loop-i-preserved : goal.loop-i-preserved
-loop-i-preserved g c =
+pub loop-step-preserved : goal.loop-step-preserved
+loop-step-preserved g c =
     let h = g.S.Survey in
-    let xs = c.loop-i.steps in
-    let i = c.loop-i.i in
-    let m = c.send_one-sent.ensures in
-    let x = c.send_one-sent.result in
-    let lt : i < length xs = omega (arith, c.loop-i-test.true, c.loop-i.auto.steps) in (
-      calls_set xs i x (unsent (Change (Enter no_leg))) lt m.call ∙ c.loop-i.invariant.0,
-      push_set h.legs h.enters h.amends h.leads c.args.survey.now xs i c.loop-i.survey x c.send_one-sent.new.survey lt c.loop-i.invariant.1 m.recorded,
-      plan_set (h.legs c.args.survey.now) (h.legs c.loop-i.survey) (plan_state c.args.plan.now) (plan_state c.loop-i.plan) (plan_state c.send_one-sent.new.plan) xs i x lt
-          (trace_list h.legs h.enters h.amends h.leads c.args.survey.now (take i xs) c.loop-i.survey c.loop-i.invariant.1) c.loop-i.invariant.2 (m.plan ∙ ap (call_plan (h.legs c.loop-i.survey) (plan_state c.loop-i.plan)) (sym m.call)),
+    let xs = c.loop-step.steps in
+    let i = c.loop-step.step-index in
+    let m = c.send_one.ensures in
+    let x = c.send_one.result in
+    let lt : i < length xs = omega (arith, c.loop-step-test.true, c.loop-step.auto.steps) in (
+      calls_set xs i x (unsent (Change (Enter no_leg))) lt m.call ∙ c.loop-step.step-indexnvariant.0,
+      push_set h.legs h.enters h.amends h.leads c.args.survey.now xs i c.loop-step.survey x c.send_one.new.survey lt c.loop-step.step-indexnvariant.1 m.recorded,
+      plan_set (h.legs c.args.survey.now) (h.legs c.loop-step.survey) (plan_state c.args.plan.now) (plan_state c.loop-step.plan) (plan_state c.send_one.new.plan) xs i x lt
+          (trace_list h.legs h.enters h.amends h.leads c.args.survey.now (take i xs) c.loop-step.survey c.loop-step.step-indexnvariant.1) c.loop-step.step-indexnvariant.2 (m.plan ∙ ap (call_plan (h.legs c.loop-step.survey) (plan_state c.loop-step.plan)) (sym m.call)),
     )
 
 pub returns : goal.returns
 returns g c =
     let h = g.S.Survey in
-    let xs = c.loop-i.steps in
-    let le : length xs ≤ c.loop-i.i = omega (arith, c.loop-i-test.false, c.loop-i.auto.steps) in
+    let xs = c.loop-step.steps in
+    let le : length xs ≤ c.loop-step.step-index = omega (arith, c.loop-step-test.false, c.loop-step.auto.steps) in
     let s = c.args.survey.now in
-    let t = c.loop-i.survey in
-    let e = take_all c.loop-i.i xs le in
+    let t = c.loop-step.survey in
+    let e = take_all c.loop-step.step-index xs le in
     record {
-      sent = trace_sent h.legs h.enters h.amends h.leads h.leading s c.args.steps.now xs t c.loop-i.invariant.0
-          (subst (λ (ys : List Step). Trace h.legs h.enters h.amends h.leads s ys t) e c.loop-i.invariant.1);
-      plan = c.loop-i.invariant.2 ∙ ap (run_plan (h.legs s) (plan_state c.args.plan.now)) e;
+      sent = trace_sent h.legs h.enters h.amends h.leads h.leading s c.args.steps.now xs t c.loop-step.step-indexnvariant.0
+          (subst (λ (ys : List Step). Trace h.legs h.enters h.amends h.leads s ys t) e c.loop-step.step-indexnvariant.1);
+      plan = c.loop-step.step-indexnvariant.2 ∙ ap (run_plan (h.legs s) (plan_state c.args.plan.now)) e;
     }
