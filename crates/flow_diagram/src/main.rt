@@ -1,11 +1,8 @@
 // Reads a survey text from standard input, draws the cave, and prints the summary of the drawing or a refusal.
 #![tactic(auto)]
 
-mod explain;
-
 use diagram::run;
 use draw::drawings::Drawing;
-use explain::{explain, has_value};
 use plan::plans::Plan;
 use price::{Plain, PlainTariff};
 use refusal::Refusal;
@@ -34,13 +31,7 @@ fn failure() -> io::Error {
 
 // Says in one line on standard error what is wrong.
 fn complain(rt: &HostRuntime, cause: &Refusal) -> io::Result<()> {
-    let what = explain(cause);
-    if has_value(cause) {
-        let value = cause.value();
-        eprintln!(rt; "{what} {value}")
-    } else {
-        eprintln!(rt; "{what}")
-    }
+    eprintln!(rt; "{cause}")
 }
 
 // Prints the refusal line.

@@ -1,5 +1,7 @@
 -- Answers as a user sees them: a number, 0 where the call is accepted, and the values returned.
 use Rattle.std.specs.Prelude.{ℕ, List, [], ◌∷◌, Ok, Err, Result}
+use Rattle.refusal.specs.declared.Attribute.{Attribute}
+use Rattle.refusal.specs.declared.Attribute.TheVariants.{Weight, Flag, Limit}
 use Rattle.refusal.specs.declared.Refusal.{Refusal}
 use Rattle.refusal.specs.declared.Refusal.TheVariants.{StationRange, SameStation, BearingRange, AttributeRange, EndTaken, LegRange, NotAllowed, NoSuchLeg, NoLegs, TooManyLegs, NoSuchSide, NotConnected, NotBimodal, NotPlanar, FewLabels, NoShape, ShortBuffer, VectorFull, PastCount, OtherCommand, FieldCount, BadStation, BadReading, LongText}
 
@@ -26,7 +28,7 @@ abbrev pub number_of : Refusal → ℕ
 number_of StationRange = 1
 number_of (SameStation s) = 2
 number_of (BearingRange b) = 3
-number_of (AttributeRange k) = 4
+number_of (AttributeRange a) = 4
 number_of (EndTaken i) = 5
 number_of (LegRange n) = 6
 number_of (NotAllowed n) = 7
@@ -48,11 +50,17 @@ number_of BadStation = 22
 number_of BadReading = 23
 number_of (LongText n) = 24
 
+-- weight, flag and limit, as they are told
+abbrev pub attribute_number : Attribute → ℕ
+attribute_number Weight = 1
+attribute_number Flag = 2
+attribute_number Limit = 3
+
 abbrev pub value_of : Refusal → ℕ
 value_of StationRange = 0
 value_of (SameStation s) = s
 value_of (BearingRange b) = b
-value_of (AttributeRange k) = k
+value_of (AttributeRange a) = attribute_number a
 value_of (EndTaken i) = i
 value_of (LegRange n) = n
 value_of (NotAllowed n) = n

@@ -1,5 +1,7 @@
 -- What an answer tells of the call and of the list.
-use Rattle.std.proofs.Common.{◌≡◌, ℕ, suc, ◌<◌, ◌≤◌, Bool, true, false, cond, ◌||◌, eqb, ltb, List, [], ◌∷◌, length, get_or, sym, refl, ap, arith}
+use Rattle.std.proofs.Common.{◌≡◌, ℕ, suc, ◌<◌, ◌≤◌, Bool, true, false, cond, ◌||◌, eqb, ltb, List, length, get_or, sym, refl, ap, arith}
+use Rattle.std.specs.Prelude.{Some, None, Option}
+use Rattle.std.specs.Option.{option_map_or}
 use lib.Dec.{eqb-suc-zero}
 use Rattle.std.proofs.lemmas.Bool.Decides.{nat_tests as tests}
 use Rattle.refusal.specs.declared.Refusal.{Refusal}
@@ -8,7 +10,7 @@ use Rattle.refusal.specs.Answers.{Answer, accepted, refuses, refused}
 use Rattle.survey.specs.declared.leg.Leg.{Leg}
 use Rattle.survey.specs.declared.leg.Attributes.{Attributes}
 use Rattle.survey.specs.Ends.{no_leg}
-use Rattle.survey.specs.Model.{is_accepted, or_else, no_station, attributes_answer, attributes_of, leg_answer, valid_leg, clash, first_clash, clash_answer, range_answer, allowed_answer, enter_answer, strike_answer, amend_answer, if_accepted, leg_told, query_answer}
+use Rattle.survey.specs.Model.{is_accepted, or_else, no_station, attributes_answer, attributes_of, leg_answer, valid_leg, first_clash, clash_answer, range_answer, allowed_answer, enter_answer, strike_answer, amend_answer, if_accepted, leg_told, query_answer}
 
 -- a refusal is no acceptance
 pub refused_not : (e : Refusal) → is_accepted (refused e) ≡ false
@@ -64,18 +66,9 @@ not_met false n v a h = (refl, h)
 pub pass_over : (b : Bool) (x y : Answer) → b ≡ false → is_accepted y ≡ true → is_accepted (cond b x y) ≡ true
 pass_over b x y e h = rw e h
 
-pub first_clash_le : (legs : List Leg) (l : Leg) → first_clash legs l ≤ length legs
-first_clash_le [] l = omega arith
-first_clash_le (x ∷ xs) l =
-    let h = first_clash_le xs l in
-    elim (clash x l) as (λ b. cond b 0 (suc (first_clash xs l)) ≤ suc (length xs)) [ true ↦ omega arith | false ↦ omega arith ]
-
-no_clash : (f n : ℕ) → is_accepted (cond (ltb f n) (refuses 5 f) accepted) ≡ true → f ≤ n → f ≡ n
-no_clash f n e h =
-    elim (ltb f n) as (λ b. ltb f n ≡ b → is_accepted (cond b (refuses 5 f) accepted) ≡ true → f ≡ n) [
-      | true ↦ λ p q. absurd (let z : ◌≡◌ {A = ℕ} 0 1 = cc in omega arith)
-      | false ↦ λ p q. grind (arith, tests)
-    ] refl e
+no_clash : (found : Option ℕ) → is_accepted (option_map_or (refuses 5) found accepted) ≡ true → found ≡ None
+no_clash None e = refl
+no_clash (Some i) e = absurd (let z : ◌≡◌ {A = ℕ} 0 1 = cc in omega arith)
 
 allowed : (may : Bool) (n : ℕ) → accepted ≡ allowed_answer n may → may ≡ true
 allowed true n h = refl
@@ -86,7 +79,7 @@ range_in n start end e = (grind (arith, tests), grind (arith, tests))
 
 pub record Entering (legs : List Leg) (may : Bool) (l : Leg) : Type 0 where
   pub valid : valid_leg l ≡ true
-  pub free : first_clash legs l ≡ length legs
+  pub free : first_clash legs l ≡ None
   pub may_enter : may ≡ true
 
 pub entering : (legs : List Leg) (may : Bool) (l : Leg) → accepted ≡ enter_answer legs may l → Entering legs may l
@@ -95,7 +88,7 @@ entering legs may l h =
     let b = both_pass (clash_answer legs l) (allowed_answer (length legs) may) a.1 in
     record {
       valid = a.0;
-      free = no_clash (first_clash legs l) (length legs) b.0 (first_clash_le legs l);
+      free = no_clash (first_clash legs l) b.0;
       may_enter = allowed may (length legs) b.1;
     }
 

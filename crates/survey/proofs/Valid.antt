@@ -1,5 +1,7 @@
 -- What keeps a list of legs valid: a leg entered, a stretch struck, a stretch amended.
-use Rattle.std.proofs.Common.{◌≡◌, ℕ, zero, suc, ◌-◌, ◌<◌, ◌≤◌, Bool, true, false, cond, not, ◌&&◌, ◌||◌, eqb, ltb, List, [], ◌∷◌, ◌++◌, map, length, get_or, take, drop, sym, refl, ap, ◌∙◌, arith}
+use Rattle.std.proofs.Common.{◌≡◌, ℕ, zero, suc, ◌-◌, ◌<◌, ◌≤◌, Bool, true, false, not, ◌&&◌, ◌||◌, eqb, ltb, List, [], ◌∷◌, ◌++◌, map, length, get_or, take, drop, sym, refl, ap, ◌∙◌, arith}
+use Rattle.std.specs.Prelude.{None}
+use Rattle.std.proofs.lemmas.Bool.Decides.{nat_tests as tests}
 use Rattle.std.proofs.lemmas.List.Edits.{split_between}
 use Rattle.survey.specs.declared.leg.Leg.{Leg}
 use Rattle.survey.specs.declared.leg.Attributes.{Attributes}
@@ -37,15 +39,15 @@ apart_entered a (x ∷ xs) l h e =
     let s = and_split (not (clash a x)) (apart a xs) h in
     and_join (not (clash a x)) (apart a (entered xs l)) s.0 (apart_entered a xs l s.1 e)
 
-first_free : (b : Bool) (m n : ℕ) → cond b 0 (suc m) ≡ suc n → (b ≡ false) × (m ≡ n)
-first_free true m n e = absurd (omega arith)
-first_free false m n e = (refl, omega arith)
+-- none of the list clashes with l: not the first leg, and none of the rest
+first_free : (x : Leg) (xs : List Leg) (l : Leg) → first_clash (x ∷ xs) l ≡ None → (clash x l ≡ false) × (first_clash xs l ≡ None)
+first_free x xs l e = grind (arith, tests)
 
-pub valid_entered : (xs : List Leg) (l : Leg) → valid_legs xs ≡ true → valid_leg l ≡ true → first_clash xs l ≡ length xs → valid_legs (entered xs l) ≡ true
+pub valid_entered : (xs : List Leg) (l : Leg) → valid_legs xs ≡ true → valid_leg l ≡ true → first_clash xs l ≡ None → valid_legs (entered xs l) ≡ true
 valid_entered [] l h v e = join l [] (record { valid = v; apart_from = refl; others = refl })
 valid_entered (x ∷ xs) l h v e =
     let f = first x xs h in
-    let n = first_free (clash x l) (first_clash xs l) (length xs) e in
+    let n = first_free x xs l e in
     join x (entered xs l) (record { valid = f.valid; apart_from = apart_entered x xs l f.apart_from n.0; others = valid_entered xs l f.others v n.1 })
 
 -- a stretch taken out

@@ -1,10 +1,15 @@
 -- The reference model of a survey: for a list of legs, what each call answers and which list it leaves.
-use Rattle.std.specs.Prelude.{ℕ, suc, Bool, true, cond, not, ◌&&◌, ◌||◌, List, [], ◌∷◌, ◌++◌, map, length, take, drop, Result, ◌==◌, nat_lt, slice_index_or, slice_range}
+use Rattle.std.specs.Prelude.{ℕ, Bool, true, cond, not, ◌&&◌, ◌||◌, List, [], ◌∷◌, ◌++◌, map, length, take, drop, Result, Option, ◌==◌, nat_lt, position, slice_index_or, slice_range}
+use Rattle.std.specs.Option.{option_map_or}
 use Rattle.refusal.specs.declared.Refusal.{Refusal}
 use Rattle.refusal.specs.Answers.{Answer, accepted, answers, refuses, told_by}
 use Rattle.survey.specs.declared.leg.Leg.{Leg}
 use Rattle.survey.specs.declared.leg.Attributes.{Attributes}
 use Rattle.survey.specs.Ends.{no_leg, far_bearing}
+
+-- a leg of weight 1, dry, with limit 999
+abbrev pub plain_leg : (from to bearing : ℕ) → Leg
+plain_leg s t b = record { from = s; to = t; bearing = b; weight = 1; wet = 0; limit = 999 }
 
 -- a leg told: its six numbers
 abbrev pub leg_told : Leg → Answer
@@ -51,13 +56,12 @@ clash a l =
     (coincide a.from a.bearing l.from l.bearing || coincide a.from a.bearing l.to (far_bearing l))
     || (coincide a.to (far_bearing a) l.from l.bearing || coincide a.to (far_bearing a) l.to (far_bearing l))
 
--- the lowest leg that clashes with l, or the count
-abbrev pub first_clash : List Leg → Leg → ℕ
-first_clash [] l = 0
-first_clash (a ∷ rest) l = cond (clash a l) 0 (suc (first_clash rest l))
+-- the lowest leg that clashes with l, if any
+abbrev pub first_clash : List Leg → Leg → Option ℕ
+first_clash legs l = position (λ a. clash a l) legs
 
 abbrev pub clash_answer : List Leg → Leg → Answer
-clash_answer legs l = cond (nat_lt (first_clash legs l) (length legs)) (refuses 5 (first_clash legs l)) accepted
+clash_answer legs l = option_map_or (refuses 5) (first_clash legs l) accepted
 
 -- legs start to end - 1 of so many
 abbrev pub range_answer : (count start end : ℕ) → Answer

@@ -1,36 +1,25 @@
 // The causes for which a call is refused, in the order in which they are met.
 ghost use Rattle.std.specs.Prelude.{◌≡◌, length};
 ghost use Rattle.refusal.specs.Answers.{told};
-ghost use Rattle.survey.specs.Ends.{far_bearing as far_bearing_of};
-ghost use Rattle.survey.specs.Model.{attributes_answer, attributes_of, leg_answer, clash as clashes, first_clash, clash_answer, range_answer, allowed_answer, enter_answer, strike_answer, amend_answer, told_leg, query_answer};
+ghost use Rattle.survey.specs.Model.{attributes_answer, leg_answer, first_clash, clash_answer, range_answer, allowed_answer, enter_answer, strike_answer, amend_answer, told_leg, query_answer};
 
 use crate::leg::{Attributes, Leg};
-use refusal::Refusal;
+use refusal::{Attribute, Refusal};
 
 // Weight, flag and limit are in range.
 fn check_attributes(x: Attributes) -> Result<(), Refusal>
     ensures { told result ≡ attributes_answer x }
 {
     if x.weight > 1000 {
-        return Err(Refusal::AttributeRange(1));
+        return Err(Refusal::AttributeRange(Attribute::Weight));
     }
     if x.wet > 1 {
-        return Err(Refusal::AttributeRange(2));
+        return Err(Refusal::AttributeRange(Attribute::Flag));
     }
     if x.limit > 999 {
-        return Err(Refusal::AttributeRange(3));
+        return Err(Refusal::AttributeRange(Attribute::Limit));
     }
     Ok(())
-}
-
-fn attributes(leg: &Leg) -> Attributes
-    ensures { result ≡ attributes_of leg.now }
-{
-    Attributes {
-        weight: leg.weight,
-        wet: leg.wet,
-        limit: leg.limit,
-    }
 }
 
 // A leg's own numbers are in range.
@@ -46,47 +35,24 @@ fn check_leg(leg: &Leg) -> Result<(), Refusal>
     if leg.bearing > 3599 {
         return Err(Refusal::BearingRange(leg.bearing));
     }
-    check_attributes(attributes(leg))
+    check_attributes(leg.attributes())
 }
 
-// The bearing at the leg's far end.
-fn far_bearing(leg: &Leg) -> u32
-    ensures { result ≡ far_bearing_of leg.now }
+// The lowest leg that clashes with this one, if any.
+fn find_clash(legs: &[Leg], leg: &Leg) -> Option<usize>
+    ensures { result ≡ first_clash legs.now leg.now }
 {
-    ((u64::from(leg.bearing) + 1800) % 3600) as u32
+    legs.iter().position(|other| other.clashes_with(leg))
 }
 
-// An end of one leg stands at the station and bearing of an end of the other.
-fn clash(a: &Leg, l: &Leg) -> bool
-    ensures { result ≡ clashes a.now l.now }
+// No leg clashes with this one.
+fn check_clash(legs: &[Leg], leg: &Leg) -> Result<(), Refusal>
+    ensures { told result ≡ clash_answer legs.now leg.now }
 {
-    let x = far_bearing(a);
-    let y = far_bearing(l);
-    ((a.from == l.from) & (a.bearing == l.bearing) | (a.from == l.to) & (a.bearing == y))
-        | ((a.to == l.from) & (x == l.bearing) | (a.to == l.to) & (x == y))
-}
-
-// The lowest leg that clashes with l, or the count.
-fn find_clash(legs: &[Leg], l: &Leg) -> usize
-    ensures { result ≡ first_clash legs.now l.now }
-{
-    for i in 0..legs.len() {
-        if clash(&legs[i], l) {
-            return i;
-        }
+    match find_clash(legs, leg) {
+        Some(i) => Err(Refusal::EndTaken(i)),
+        None => Ok(()),
     }
-    legs.len()
-}
-
-// No leg clashes with l.
-fn check_clash(legs: &[Leg], l: &Leg) -> Result<(), Refusal>
-    ensures { told result ≡ clash_answer legs.now l.now }
-{
-    let i = find_clash(legs, l);
-    if i < legs.len() {
-        return Err(Refusal::EndTaken(i));
-    }
-    Ok(())
 }
 
 // The survey allows the call.
@@ -111,11 +77,11 @@ fn check_range(count: usize, start: usize, end: usize) -> Result<(), Refusal>
 }
 
 /// What entering a leg meets, given the legs and whether one may enter.
-pub fn check_enter(legs: &[Leg], may: bool, l: &Leg) -> Result<(), Refusal>
-    ensures { told result ≡ enter_answer legs.now may l.now }
+pub fn check_enter(legs: &[Leg], may: bool, leg: &Leg) -> Result<(), Refusal>
+    ensures { told result ≡ enter_answer legs.now may leg.now }
 {
-    check_leg(l)?;
-    check_clash(legs, l)?;
+    check_leg(leg)?;
+    check_clash(legs, leg)?;
     check_allowed(legs.len(), may)
 }
 
@@ -146,8 +112,5 @@ pub fn check_amend(
 pub fn query_leg(legs: &[Leg], i: usize) -> Result<Leg, Refusal>
     ensures { told_leg result ≡ query_answer legs.now i }
 {
-    if i >= legs.len() {
-        return Err(Refusal::NoSuchLeg(legs.len()));
-    }
-    Ok(legs[i])
+    legs.get(i).copied().ok_or(Refusal::NoSuchLeg(legs.len()))
 }
