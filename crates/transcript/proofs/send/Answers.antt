@@ -20,10 +20,10 @@ loop-step-preserved g c =
     let m = c.send_one.ensures in
     let x = c.send_one.result in
     let lt : i < length xs = omega (arith, c.loop-step-test.true, c.loop-step.auto.steps) in (
-      calls_set xs i x (unsent (Change (Enter no_leg))) lt m.call ∙ c.loop-step.step-indexnvariant.0,
-      push_set h.legs h.enters h.amends h.leads c.args.survey.now xs i c.loop-step.survey x c.send_one.new.survey lt c.loop-step.step-indexnvariant.1 m.recorded,
+      calls_set xs i x (unsent (Change (Enter no_leg))) lt m.call ∙ c.loop-step.invariant.0,
+      push_set h.legs h.enters h.amends h.leads c.args.survey.now xs i c.loop-step.survey x c.send_one.new.survey lt c.loop-step.invariant.1 m.recorded,
       plan_set (h.legs c.args.survey.now) (h.legs c.loop-step.survey) (plan_state c.args.plan.now) (plan_state c.loop-step.plan) (plan_state c.send_one.new.plan) xs i x lt
-          (trace_list h.legs h.enters h.amends h.leads c.args.survey.now (take i xs) c.loop-step.survey c.loop-step.step-indexnvariant.1) c.loop-step.step-indexnvariant.2 (m.plan ∙ ap (call_plan (h.legs c.loop-step.survey) (plan_state c.loop-step.plan)) (sym m.call)),
+          (trace_list h.legs h.enters h.amends h.leads c.args.survey.now (take i xs) c.loop-step.survey c.loop-step.invariant.1) c.loop-step.invariant.2 (m.plan ∙ ap (call_plan (h.legs c.loop-step.survey) (plan_state c.loop-step.plan)) (sym m.call)),
     )
 
 pub returns : goal.returns
@@ -35,7 +35,7 @@ returns g c =
     let t = c.loop-step.survey in
     let e = take_all c.loop-step.step-index xs le in
     record {
-      sent = trace_sent h.legs h.enters h.amends h.leads h.leading s c.args.steps.now xs t c.loop-step.step-indexnvariant.0
-          (subst (λ (ys : List Step). Trace h.legs h.enters h.amends h.leads s ys t) e c.loop-step.step-indexnvariant.1);
-      plan = c.loop-step.step-indexnvariant.2 ∙ ap (run_plan (h.legs s) (plan_state c.args.plan.now)) e;
+      sent = trace_sent h.legs h.enters h.amends h.leads h.leading s c.args.steps.now xs t c.loop-step.invariant.0
+          (subst (λ (ys : List Step). Trace h.legs h.enters h.amends h.leads s ys t) e c.loop-step.invariant.1);
+      plan = c.loop-step.invariant.2 ∙ ap (run_plan (h.legs s) (plan_state c.args.plan.now)) e;
     }
