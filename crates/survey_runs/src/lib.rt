@@ -6,7 +6,7 @@ ghost use Rattle.table.specs.Tables.{table_legs};
 ghost use Rattle.replay.specs.Entries.{written};
 ghost use Rattle.journal.specs.Journals.{journal_legs, held_entries, taken_entries};
 ghost use Rattle.transcript.specs.Runs.{run_legs, run_changes, Sent};
-ghost use Rattle.survey_runs.specs.Stack.{top_shows, top_sends, upper_shows, upper_sends, stack_shows, stack_sends};
+ghost use Rattle.survey_runs.specs.Stack.{stack_shows, stack_sends};
 ghost use Rattle.survey_runs.specs.Ran.{Ran, journal_allows, table_enters, table_amends};
 
 use journal::SurveyJournal;
@@ -18,35 +18,22 @@ use transcript;
 use transcript::step::Step;
 use views::{Declination, Mirrored, Reversed, View, Viewed};
 
-/// Sends the steps to any survey through a declination over the reversed view over the mirrored view.
+/// Sends the steps to any survey through a declination over the reversed view over the mirrored view. Calls to plan fill a plan
+/// that is let go.
 pub fn send_through<S: Survey>(below: &mut S, turn: u32, steps: &mut [Step])
     ensures { Sent (λ s. stack_shows (turn % 3600) (S.legs s)) S.enters S.amends (λ s cs t. S.leads s (stack_sends (turn % 3600) cs) t) below.old steps.old steps.new below.new }
 {
-    let mut mirrored = Viewed {
+    let mirrored = Viewed {
         view: Mirrored,
         below,
     };
-    send_reversed(&mut mirrored, turn, steps);
-}
-
-// The two upper views of the stack.
-fn send_reversed<S: Survey>(below: &mut S, turn: u32, steps: &mut [Step])
-    ensures { Sent (λ s. upper_shows (turn % 3600) (S.legs s)) S.enters S.amends (λ s cs t. S.leads s (upper_sends (turn % 3600) cs) t) below.old steps.old steps.new below.new }
-{
-    let mut reversed = Viewed {
+    let reversed = Viewed {
         view: Reversed,
-        below,
+        below: mirrored,
     };
-    send_declined(&mut reversed, turn, steps);
-}
-
-// The top of the stack. Calls to plan fill a plan that is let go.
-fn send_declined<S: Survey>(below: &mut S, turn: u32, steps: &mut [Step])
-    ensures { Sent (λ s. top_shows (turn % 3600) (S.legs s)) S.enters S.amends (λ s cs t. S.leads s (top_sends (turn % 3600) cs) t) below.old steps.old steps.new below.new }
-{
     let mut declined = Viewed {
         view: Declination::new(turn),
-        below,
+        below: reversed,
     };
     let mut plan = Plan::new();
     transcript::send(&mut declined, steps, &mut plan);
