@@ -7,13 +7,14 @@ use Rattle.survey.specs.declared.leg.Leg.{Leg}
 use Rattle.survey.specs.Ends.{no_leg, ends, outgoing, leg_of, station, bearing, far_bearing}
 use Rattle.survey.specs.Model.{coincide, clash, apart, no_station, valid_leg, valid_legs}
 use Rattle.survey.proofs.Accepted.{in_range}
-use Rattle.survey.proofs.Valid.{and_split, first, valid_at}
+use Rattle.std.proofs.lemmas.Bool.{and_parts}
+use Rattle.survey.proofs.Valid.{first, valid_at}
 use Rattle.embedding.specs.Laws.{Distinct}
 
 apart_at : (xs : List Leg) (a : Leg) (j : ℕ) → apart a xs ≡ true → j < length xs → clash a (get_or xs j no_leg) ≡ false
 apart_at [] a j h l = absurd (omega arith)
-apart_at (x ∷ xs) a zero h l = not-true (clash a x) (and_split (not (clash a x)) (apart a xs) h).0
-apart_at (x ∷ xs) a (suc j) h l = apart_at xs a j (and_split (not (clash a x)) (apart a xs) h).1 (omega arith)
+apart_at (x ∷ xs) a zero h l = not-true (clash a x) (and_parts (not (clash a x)) (apart a xs) h).0
+apart_at (x ∷ xs) a (suc j) h l = apart_at xs a j (and_parts (not (clash a x)) (apart a xs) h).1 (omega arith)
 
 -- two legs of the list do not clash
 no_clash : (xs : List Leg) (i j : ℕ) → valid_legs xs ≡ true → i < j → j < length xs → clash (get_or xs i no_leg) (get_or xs j no_leg) ≡ false

@@ -13,6 +13,7 @@ ghost use Rattle.journal.specs.Writing.{writing};
 
 mod survey_journal;
 
+use arrayvec::ArrayVec;
 use refusal::Refusal;
 use replay;
 use slice_vec::SliceVec;
@@ -22,15 +23,6 @@ pub use survey_journal::SurveyJournal;
 
 /// The most entries that a journal uses, however many are supplied.
 const MOST_ENTRIES: usize = 4096;
-
-const BLANK: Leg = Leg {
-    from: 0,
-    to: 0,
-    bearing: 0,
-    weight: 0,
-    wet: 0,
-    limit: 0,
-};
 
 impl<'a> SurveyJournal<'a> {
     /// An empty journal over these entries, all of them free. What they hold stays until it is written over.
@@ -60,30 +52,11 @@ impl<'a> SurveyJournal<'a> {
         self.entries.len() < self.entries.capacity().min(MOST_ENTRIES)
     }
 
-    // Plays the changes into a list of legs: how many there are.
-    fn play(&self, legs: &mut [Leg]) -> usize
-        requires { 4096 ≤ length legs.old }
-        ensures within { result ≤ length legs.new }
-        ensures list { take result legs.new ≡ journal_legs self.now }
+    // The legs that the changes make.
+    fn replayed(&self) -> ArrayVec<Leg, MOST_ENTRIES>
+        ensures { result.items ≡ journal_legs self.now }
     {
-        replay::replay(self.changes(), legs)
-    }
-
-    // How many legs there are.
-    fn count_legs(&self) -> usize
-        ensures { result ≡ length (journal_legs self.now) }
-    {
-        let mut legs = [BLANK; MOST_ENTRIES];
-        self.play(&mut legs)
-    }
-
-    // What entering a leg meets.
-    fn check_enter(&self, leg: &Leg) -> Result<(), Refusal>
-        ensures { told result ≡ enter_answer (journal_legs self.now) (has_free_entry self.now) leg.now }
-    {
-        let mut legs = [BLANK; MOST_ENTRIES];
-        let count = self.play(&mut legs);
-        checks::check_enter(&legs[0..count], self.is_free(), leg)
+        replay::replay(self.changes())
     }
 
     // Writes an accepted change into the first free entry.
@@ -109,81 +82,49 @@ impl<'a> Survey for SurveyJournal<'a> {
 
     ghost leading = { writing };
 
-    fn count(&self) -> usize
-        ensures { result ≡ length (journal_legs self.now) }
-    {
-        self.count_legs()
+    fn count(&self) -> usize {
+        self.replayed().len()
     }
 
     /// A leg may be entered while an entry is free.
-    fn may_enter(&self) -> bool
-        ensures { result ≡ has_free_entry self.now }
-    {
+    fn may_enter(&self) -> bool {
         self.is_free()
     }
 
     /// Legs may be struck and amended while a leg may be entered.
-    fn may_amend(&self) -> bool
-        ensures { result ≡ has_free_entry self.now }
-    {
+    fn may_amend(&self) -> bool {
         self.may_enter()
     }
 
-    fn leg(&self, i: usize) -> Result<Leg, Refusal>
-        ensures { told_leg result ≡ query_answer (journal_legs self.now) i }
-    {
-        let mut legs = [BLANK; MOST_ENTRIES];
-        let count = self.play(&mut legs);
-        checks::query_leg(&legs[0..count], i)
+    fn leg(&self, i: usize) -> Result<Leg, Refusal> {
+        checks::query_leg(&self.replayed(), i)
     }
 
-    fn enter(&mut self, leg: Leg) -> Result<(), Refusal>
-        ensures answer { told result ≡ enter_answer (journal_legs self.old) (has_free_entry self.old) leg }
-        ensures list { journal_legs self.new ≡ enter_legs (journal_legs self.old) (has_free_entry self.old) leg }
-        ensures facts { (told result ≡ accepted → ⊥) → (has_free_entry self.new ≡ has_free_entry self.old) × (has_free_entry self.new ≡ has_free_entry self.old) }
-        ensures led { Wrote self.old (changes (told result) (Enter leg)) self.new }
-    {
-        match self.check_enter(&leg) {
-            Err(e) => Err(e),
-            Ok(()) => {
-                self.write(Change::Enter(leg));
-                Ok(())
-            }
-        }
+    fn enter(&mut self, leg: Leg) -> Result<(), Refusal> {
+        checks::check_enter(&self.replayed(), self.is_free(), &leg)?;
+        self.write(Change::Enter(leg));
+        Ok(())
     }
 
-    fn strike(&mut self, start: usize, end: usize) -> Result<(), Refusal>
-        ensures answer { told result ≡ strike_answer (length (journal_legs self.old)) (has_free_entry self.old) start end }
-        ensures list { journal_legs self.new ≡ strike_legs (journal_legs self.old) (has_free_entry self.old) start end }
-        ensures facts { (told result ≡ accepted → ⊥) → (has_free_entry self.new ≡ has_free_entry self.old) × (has_free_entry self.new ≡ has_free_entry self.old) }
-        ensures led { Wrote self.old (changes (told result) (Strike start end)) self.new }
-    {
-        match checks::check_strike(self.count_legs(), self.is_free(), start, end) {
-            Err(e) => Err(e),
-            Ok(()) => {
-                self.write(Change::Strike { start, end });
-                Ok(())
-            }
-        }
+    fn strike(&mut self, start: usize, end: usize) -> Result<(), Refusal> {
+        checks::check_strike(self.replayed().len(), self.is_free(), start, end)?;
+        self.write(Change::Strike { start, end });
+        Ok(())
     }
 
-    fn amend(&mut self, start: usize, end: usize, attributes: Attributes) -> Result<(), Refusal>
-        ensures answer { told result ≡ amend_answer (length (journal_legs self.old)) (has_free_entry self.old) start end attributes }
-        ensures list { journal_legs self.new ≡ amend_legs (journal_legs self.old) (has_free_entry self.old) start end attributes }
-        ensures facts { (told result ≡ accepted → ⊥) → (has_free_entry self.new ≡ has_free_entry self.old) × (has_free_entry self.new ≡ has_free_entry self.old) }
-        ensures led { Wrote self.old (changes (told result) (Amend start end attributes)) self.new }
-    {
-        match checks::check_amend(self.count_legs(), self.is_free(), start, end, attributes) {
-            Err(e) => Err(e),
-            Ok(()) => {
-                let change = Change::Amend {
-                    start,
-                    end,
-                    attributes,
-                };
-                self.write(change);
-                Ok(())
-            }
-        }
+    fn amend(&mut self, start: usize, end: usize, attributes: Attributes) -> Result<(), Refusal> {
+        checks::check_amend(
+            self.replayed().len(),
+            self.is_free(),
+            start,
+            end,
+            attributes,
+        )?;
+        self.write(Change::Amend {
+            start,
+            end,
+            attributes,
+        });
+        Ok(())
     }
 }

@@ -1,20 +1,14 @@
 -- What keeps a list of legs valid: a leg entered, a stretch struck, a stretch amended.
 use Rattle.std.proofs.Common.{◌≡◌, ℕ, zero, suc, ◌-◌, ◌<◌, ◌≤◌, Bool, true, false, not, ◌&&◌, ◌||◌, eqb, ltb, List, [], ◌∷◌, ◌++◌, map, length, get_or, take, drop, sym, refl, ap, ◌∙◌, arith}
 use Rattle.std.specs.Prelude.{None}
+use Rattle.std.proofs.lemmas.Bool.{and_parts, and_from}
 use Rattle.std.proofs.lemmas.Bool.Decides.{nat_tests as tests}
 use Rattle.std.proofs.lemmas.List.Edits.{split_between}
 use Rattle.survey.specs.declared.leg.Leg.{Leg}
 use Rattle.survey.specs.declared.leg.Attributes.{Attributes}
-use Rattle.survey.specs.Model.{is_accepted, attributes_answer, no_station, valid_leg, apart, valid_legs, clash, first_clash, entered, struck, with_attributes, amended}
-use Rattle.survey.proofs.Accepted.{in_range, pass_over}
-
-pub and_split : (a b : Bool) → (a && b) ≡ true → (a ≡ true) × (b ≡ true)
-and_split true true e = (refl, refl)
-and_split true false e = (refl, e)
-and_split false b e = absurd (let z : ◌≡◌ {A = ℕ} 0 1 = cc in omega arith)
-
-pub and_join : (a b : Bool) → a ≡ true → b ≡ true → (a && b) ≡ true
-and_join a b p q = rw (p, q) refl
+use Rattle.survey.specs.Model.{is_accepted, attributes_answer, no_station, valid_leg, apart, valid_legs, clash, first_clash, enter_answer, entered, strike_answer, struck, amend_answer, with_attributes, amended}
+use Rattle.survey.proofs.Accepted.{in_range, pass_over, entering, striking, amending}
+use Rattle.refusal.specs.Answers.{accepted}
 
 -- what a valid list says of its first leg and of the rest
 pub record First (a : Leg) (rest : List Leg) : Type 0 where
@@ -24,20 +18,20 @@ pub record First (a : Leg) (rest : List Leg) : Type 0 where
 
 pub first : (a : Leg) (rest : List Leg) → valid_legs (a ∷ rest) ≡ true → First a rest
 first a rest h =
-    let s = and_split (valid_leg a && apart a rest) (valid_legs rest) h in
-    let t = and_split (valid_leg a) (apart a rest) s.0 in
+    let s = and_parts (valid_leg a && apart a rest) (valid_legs rest) h in
+    let t = and_parts (valid_leg a) (apart a rest) s.0 in
     record { valid = t.0; apart_from = t.1; others = s.1 }
 
 pub join : (a : Leg) (rest : List Leg) → First a rest → valid_legs (a ∷ rest) ≡ true
-join a rest f = and_join (valid_leg a && apart a rest) (valid_legs rest) (and_join (valid_leg a) (apart a rest) f.valid f.apart_from) f.others
+join a rest f = and_from (valid_leg a && apart a rest) (valid_legs rest) (and_from (valid_leg a) (apart a rest) f.valid f.apart_from) f.others
 
 -- a leg entered
 
 apart_entered : (a : Leg) (xs : List Leg) (l : Leg) → apart a xs ≡ true → clash a l ≡ false → apart a (entered xs l) ≡ true
 apart_entered a [] l h e = rw e refl
 apart_entered a (x ∷ xs) l h e =
-    let s = and_split (not (clash a x)) (apart a xs) h in
-    and_join (not (clash a x)) (apart a (entered xs l)) s.0 (apart_entered a xs l s.1 e)
+    let s = and_parts (not (clash a x)) (apart a xs) h in
+    and_from (not (clash a x)) (apart a (entered xs l)) s.0 (apart_entered a xs l s.1 e)
 
 -- none of the list clashes with l: not the first leg, and none of the rest
 first_free : (x : Leg) (xs : List Leg) (l : Leg) → first_clash (x ∷ xs) l ≡ None → (clash x l ≡ false) × (first_clash xs l ≡ None)
@@ -54,10 +48,10 @@ valid_entered (x ∷ xs) l h v e =
 
 apart_without : (a : Leg) (xs ys zs : List Leg) → apart a (xs ++ (ys ++ zs)) ≡ true → apart a (xs ++ zs) ≡ true
 apart_without a [] [] zs h = h
-apart_without a [] (y ∷ ys) zs h = apart_without a [] ys zs (and_split (not (clash a y)) (apart a (ys ++ zs)) h).1
+apart_without a [] (y ∷ ys) zs h = apart_without a [] ys zs (and_parts (not (clash a y)) (apart a (ys ++ zs)) h).1
 apart_without a (x ∷ xs) ys zs h =
-    let s = and_split (not (clash a x)) (apart a (xs ++ (ys ++ zs))) h in
-    and_join (not (clash a x)) (apart a (xs ++ zs)) s.0 (apart_without a xs ys zs s.1)
+    let s = and_parts (not (clash a x)) (apart a (xs ++ (ys ++ zs))) h in
+    and_from (not (clash a x)) (apart a (xs ++ zs)) s.0 (apart_without a xs ys zs s.1)
 
 valid_without : (xs ys zs : List Leg) → valid_legs (xs ++ (ys ++ zs)) ≡ true → valid_legs (xs ++ zs) ≡ true
 valid_without [] [] zs h = h
@@ -93,6 +87,17 @@ module _ (x : Attributes) (ok : is_accepted (attributes_answer x) ≡ true) wher
 
   pub valid_amended : (start end : ℕ) (xs : List Leg) → start ≤ end → valid_legs xs ≡ true → valid_legs (amended xs start end x) ≡ true
   valid_amended start end xs h v = valid_between (take start xs) (take (end - start) (drop start xs)) (drop end xs) (ap valid_legs (sym (split_between xs start end h)) ∙ v)
+
+-- a call that is accepted leaves a valid list
+
+pub enter_valid : (xs : List Leg) (may : Bool) (l : Leg) → valid_legs xs ≡ true → accepted ≡ enter_answer xs may l → valid_legs (entered xs l) ≡ true
+enter_valid xs may l v d = let t = entering xs may l d in valid_entered xs l v t.valid t.free
+
+pub strike_valid : (xs : List Leg) (may : Bool) (start end : ℕ) → valid_legs xs ≡ true → accepted ≡ strike_answer (length xs) may start end → valid_legs (struck xs start end) ≡ true
+strike_valid xs may start end v d = valid_struck xs start end (striking (length xs) may start end d).ordered v
+
+pub amend_valid : (xs : List Leg) (may : Bool) (start end : ℕ) (x : Attributes) → valid_legs xs ≡ true → accepted ≡ amend_answer (length xs) may start end x → valid_legs (amended xs start end x) ≡ true
+amend_valid xs may start end x v d = let t = amending (length xs) may start end x d in valid_amended x t.0 start end xs t.1.ordered v
 
 -- each leg of a valid list is valid
 pub valid_at : (xs : List Leg) (i : ℕ) (d : Leg) → valid_legs xs ≡ true → i < length xs → valid_leg (get_or xs i d) ≡ true

@@ -6,23 +6,12 @@ ghost use Rattle.table.specs.Tables.{table_legs};
 
 mod survey_table;
 
+use arrayvec::ArrayVec;
 use leg_slice;
 use refusal::Refusal;
 use survey::leg::{Attributes, Leg};
 use survey::{Survey, checks};
 pub use survey_table::SurveyTable;
-
-/// The most legs that a table holds.
-const CAPACITY: usize = 256;
-
-const BLANK: Leg = Leg {
-    from: 0,
-    to: 0,
-    bearing: 0,
-    weight: 0,
-    wet: 0,
-    limit: 0,
-};
 
 impl SurveyTable {
     /// An empty table.
@@ -30,17 +19,16 @@ impl SurveyTable {
         ensures { table_legs result ≡ [] }
     {
         SurveyTable {
-            legs: [BLANK; CAPACITY],
-            count: 0,
+            legs: ArrayVec::new(),
         }
     }
 
-    /// The legs in use.
+    /// The legs.
     pub fn as_slice(&self) -> &[Leg]
         ensures legs { result.now ≡ table_legs self.now }
         ensures few { length result.now ≤ 256 }
     {
-        &self.legs[0..self.count]
+        self.legs.as_slice()
     }
 }
 
@@ -57,23 +45,17 @@ impl Survey for SurveyTable {
 
     ghost leading = { record { stays = λ s. tt; onward = λ s t u cs ds p q. tt } };
 
-    fn count(&self) -> usize
-        ensures { result ≡ length (table_legs self.now) }
-    {
-        self.as_slice().len()
+    fn count(&self) -> usize {
+        self.legs.len()
     }
 
     /// A leg may be entered while there are fewer than 256.
-    fn may_enter(&self) -> bool
-        ensures { result ≡ nat_lt (length (table_legs self.now)) 256 }
-    {
-        self.count < CAPACITY
+    fn may_enter(&self) -> bool {
+        !self.legs.is_full()
     }
 
     /// A table may always be amended.
-    fn may_amend(&self) -> bool
-        ensures { result ≡ true }
-    {
+    fn may_amend(&self) -> bool {
         true
     }
 
@@ -82,35 +64,20 @@ impl Survey for SurveyTable {
     }
 
     fn enter(&mut self, leg: Leg) -> Result<(), Refusal> {
-        let legs = self.as_slice();
-        match checks::check_enter(legs, legs.len() < CAPACITY, &leg) {
-            Err(e) => Err(e),
-            Ok(()) => {
-                self.legs[self.count] = leg;
-                self.count += 1;
-                Ok(())
-            }
-        }
+        checks::check_enter(&self.legs, !self.legs.is_full(), &leg)?;
+        self.legs.push(leg);
+        Ok(())
     }
 
     fn strike(&mut self, start: usize, end: usize) -> Result<(), Refusal> {
-        match checks::check_strike(self.count, true, start, end) {
-            Err(e) => Err(e),
-            Ok(()) => {
-                leg_slice::strike(&mut self.legs, self.count, start, end);
-                self.count -= end - start;
-                Ok(())
-            }
-        }
+        checks::check_strike(self.legs.len(), true, start, end)?;
+        self.legs.drain(start..end);
+        Ok(())
     }
 
     fn amend(&mut self, start: usize, end: usize, attributes: Attributes) -> Result<(), Refusal> {
-        match checks::check_amend(self.count, true, start, end, attributes) {
-            Err(e) => Err(e),
-            Ok(()) => {
-                leg_slice::amend(&mut self.legs, start, end, attributes);
-                Ok(())
-            }
-        }
+        checks::check_amend(self.legs.len(), true, start, end, attributes)?;
+        leg_slice::amend(&mut self.legs, start, end, attributes);
+        Ok(())
     }
 }

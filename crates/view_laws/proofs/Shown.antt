@@ -1,5 +1,6 @@
 -- What a view keeps of a valid list: proved once, for every view.
 use Rattle.std.proofs.Common.{◌≡◌, ℕ, ◌-◌, Bool, true, false, cond, List, [], ◌∷◌, ◌++◌, map, length, take, drop, sym, refl, ap, ◌∙◌, subst}
+use Rattle.std.specs.List.{position_or_len}
 use Rattle.std.proofs.lemmas.List.{length-map, take-map, drop-map, map-append}
 use Rattle.refusal.specs.Answers.{Answer}
 use Rattle.survey.specs.declared.leg.Leg.{Leg}
@@ -43,15 +44,16 @@ module _ {f d : Leg → Leg} (k : ViewLaws f d) where
       let s = first x xs h in
       join (f x) (map f xs) (record { valid = k.valid x s.valid; apart_from = apart_shown x s.valid xs s.others ∙ s.apart_from; others = valid_shown xs s.others })
 
-  first_clash_shown : (xs : List Leg) (l : Leg) → valid_legs xs ≡ true → valid_leg l ≡ true → first_clash (map f xs) l ≡ first_clash xs (d l)
-  first_clash_shown [] l h v = refl
-  first_clash_shown (x ∷ xs) l h v =
+  -- the legs before the lowest that clashes
+  before_clash_shown : (xs : List Leg) (l : Leg) → valid_legs xs ≡ true → valid_leg l ≡ true → position_or_len (λ a. clash a l) (map f xs) ≡ position_or_len (λ a. clash a (d l)) xs
+  before_clash_shown [] l h v = refl
+  before_clash_shown (x ∷ xs) l h v =
       let s = first x xs h in
       let e : clash (f x) l ≡ clash x (d l) = ap (clash (f x)) (sym (k.as_given l v)) ∙ k.clashes x (d l) s.valid (ap is_accepted (k.refusal l) ∙ v) in
-      let r = first_clash_shown xs l s.others v in cc
+      let r = before_clash_shown xs l s.others v in cc
 
   clash_answer_shown : (xs : List Leg) (l : Leg) → valid_legs xs ≡ true → valid_leg l ≡ true → clash_answer (map f xs) l ≡ clash_answer xs (d l)
-  clash_answer_shown xs l h v = let a = first_clash_shown xs l h v in let b = length-map xs f in rw (a, b) refl
+  clash_answer_shown xs l h v = let a = before_clash_shown xs l h v in let b = length-map xs f in rw (a, b) refl
 
   -- entering
 

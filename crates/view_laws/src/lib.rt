@@ -5,8 +5,6 @@ ghost use Rattle.view_laws.specs.Laws.{ThreeViews};
 
 /// The theorem that declination, mirrored and reversed are views: one-to-one on valid legs, and keeping
 /// refusals, clashes and attributes.
-pub fn views_keep_surveys() -> u8
+pub fn views_keep_surveys()
     ensures { ThreeViews }
-{
-    0
-}
+{}

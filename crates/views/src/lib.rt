@@ -62,10 +62,7 @@ impl<V: View, S: Survey> Survey for Viewed<V, S> {
     fn leg(&self, i: usize) -> Result<Leg, Refusal>
         ensures { told_leg result ≡ query_answer (map (V.View.shows self.now.view) (S.Survey.legs self.now.below)) i }
     {
-        match self.below.leg(i) {
-            Ok(leg) => Ok(self.view.show(leg)),
-            Err(e) => Err(e),
-        }
+        Ok(self.view.show(self.below.leg(i)?))
     }
 
     /// Sends down the leg that the view then shows as this one.
@@ -75,8 +72,7 @@ impl<V: View, S: Survey> Survey for Viewed<V, S> {
         ensures facts { (told result ≢ accepted) → (S.Survey.enters self.new.below ≡ S.Survey.enters self.old.below) × (S.Survey.amends self.new.below ≡ S.Survey.amends self.old.below) }
         ensures led { (self.new.view ≡ self.old.view) × S.Survey.leads self.old.below (map (sent (V.View.sends self.old.view)) (changes (told result) (Enter leg))) self.new.below }
     {
-        let sent = self.view.send(leg);
-        self.below.enter(sent)
+        self.below.enter(self.view.send(leg))
     }
 
     /// Strikes the same range below.

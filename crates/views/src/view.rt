@@ -32,7 +32,7 @@ pub trait View {
 }
 
 /// Shows each bearing plus a declination, modulo 3,600.
-#[derive(Clone, Copy)]
+#[derive(Clone, Copy, Debug, Default, PartialEq, Eq, Hash)]
 pub struct Declination {
     turn: u32,
 }
@@ -72,7 +72,7 @@ impl View for Declination {
 }
 
 /// Shows 3,600 minus each bearing, modulo 3,600: the cave in a mirror.
-#[derive(Clone, Copy)]
+#[derive(Clone, Copy, Debug, Default, PartialEq, Eq, Hash)]
 pub struct Mirrored;
 
 impl View for Mirrored {
@@ -99,7 +99,7 @@ impl View for Mirrored {
 }
 
 /// Shows each leg from its other end: from and to swapped, and 1,800 added to the bearing, modulo 3,600.
-#[derive(Clone, Copy)]
+#[derive(Clone, Copy, Debug, Default, PartialEq, Eq, Hash)]
 pub struct Reversed;
 
 impl View for Reversed {
@@ -150,14 +150,7 @@ fn mirror(bearing: u32) -> u32
 fn with_bearing(leg: Leg, bearing: u32) -> Leg
     ensures { result ≡ at_bearing leg bearing }
 {
-    Leg {
-        from: leg.from,
-        to: leg.to,
-        bearing,
-        weight: leg.weight,
-        wet: leg.wet,
-        limit: leg.limit,
-    }
+    Leg { bearing, ..leg }
 }
 
 // The leg with from and to swapped, at another bearing.
@@ -168,8 +161,6 @@ fn swapped(leg: Leg, bearing: u32) -> Leg
         from: leg.to,
         to: leg.from,
         bearing,
-        weight: leg.weight,
-        wet: leg.wet,
-        limit: leg.limit,
+        ..leg
     }
 }

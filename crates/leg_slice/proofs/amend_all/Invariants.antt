@@ -3,5 +3,5 @@ use Rattle.std.proofs.Common.{◌≡◌, ◌++◌, map, take, drop}
 use Rattle.survey.specs.Model.{with_attributes}
 use Rattle.leg_slice.proofs.amend_all.Given as goal
 
-abbrev pub invariant-loop-l : goal.invariant-loop-l
-invariant-loop-l l = l.legs ≡ map (with_attributes l.x) (take l.l-index l.initial.legs) ++ drop l.l-index l.initial.legs
+abbrev pub invariant-loop-leg : goal.invariant-loop-leg
+invariant-loop-leg l = l.leg-items ≡ map (with_attributes l.attributes) (take l.leg-index l.initial.leg-items) ++ drop l.leg-index l.initial.leg-items
