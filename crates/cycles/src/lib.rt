@@ -6,15 +6,7 @@ ghost use Rattle.embedding.specs.Laws.{Permutes};
 ghost use Rattle.embedding.specs.Tables.{Holds};
 ghost use Rattle.cycles.specs.Cycles.{at as at_of, cycle_name, named_below, tallied};
 
-// Gives each number below n the value n: not named yet.
-fn clear_names(n: usize, names: &mut [usize])
-    requires { n ≤ length names.old }
-    ensures { Holds 0 (λ _. n) names.new n }
-{
-    for e in 0..n {
-        names[e] = n;
-    }
-}
+use embedding::tables::fill;
 
 // Gives a number its name, and tells the next one on its cycle.
 fn name_one(steps: &[usize], names: &mut [usize], at: usize, name: usize) -> usize
@@ -53,7 +45,7 @@ pub fn name_cycles(steps: &[usize], n: usize, names: &mut [usize])
     requires room { n ≤ length names.old }
     ensures { Holds 0 (cycle_name steps.now n) names.new n }
 {
-    clear_names(n, names);
+    fill(names, n, |_| n);
     for e in 0..n {
         if names[e] == n {
             name_cycle(steps, n, names, e);

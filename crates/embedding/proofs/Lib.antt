@@ -3,3 +3,4 @@ pub mod Distinct
 pub mod Following
 pub mod Faces
 pub mod Reached
+pub mod Telling

@@ -1,5 +1,5 @@
 -- Searches below a bound and walks, over plain numbers.
-use Rattle.std.specs.Prelude.{ℕ, zero, suc, min, Bool, false, cond, ◌&&◌, ◌||◌, nat_lt}
+use Rattle.std.specs.Prelude.{ℕ, zero, suc, min, Bool, false, cond, ◌&&◌, ◌||◌, Option, Some, None, nat_lt}
 
 -- among the numbers below k that pass, the one of least cost, or b where none costs less than b
 abbrev pub cheapest : (ℕ → Bool) → (ℕ → ℕ) → ℕ → ℕ → ℕ
@@ -25,3 +25,7 @@ iter f (suc k) e = f (iter f k e)
 abbrev pub lowest : (ℕ → ℕ) → ℕ → ℕ → ℕ
 lowest f zero e = e
 lowest f (suc k) e = min (iter f (suc k) e) (lowest f k e)
+
+-- a number where it is below the bound, else none
+abbrev pub below : (n i : ℕ) → Option ℕ
+below n i = cond (nat_lt i n) (Some i) None

@@ -1,5 +1,6 @@
 -- Visits that spread stay sound, and closed ones are at just the joined legs.
-use Rattle.std.proofs.Common.{◌≡◌, ℕ, ◌<◌, Bool, true, false, not, ◌&&◌, ◌||◌, eqb, ◌≢◌, ◌⊎◌, List, length, set, sym, refl, ◌∙◌, subst, inl, inr, ⊎_elim, arith, length-set, get_or-set_other, get_or-set_same}
+use Rattle.std.proofs.Common.{◌≡◌, ℕ, ◌+◌, ◌<◌, Bool, true, false, not, ◌&&◌, ◌||◌, eqb, ◌≢◌, ◌⊎◌, List, length, set, sym, refl, ap, ◌∙◌, subst, inl, inr, ⊎_elim, arith, length-set, get_or-set_other, get_or-set_same, below_more}
+use mathlib.Core.Bool.{beq}
 use Rattle.std.proofs.lemmas.Bool.{cases_eq, cases_Bool, both_ways, eq-eqb, eqb-true, or_cases, or_left, or_right, and_from, and_parts, and_left, and_right, not-true, not_from_true, not_from_false}
 use Rattle.survey.specs.declared.leg.Leg.{Leg}
 use Rattle.embedding.specs.Joins.{touch_at, Joined, joined}
@@ -166,3 +167,43 @@ module _ (legs : List Leg) where
         (λ (t : joined legs i ≡ false). t ∙ sym m)
         (cases_Bool (joined legs i)))
         (cases_Bool (visited_at ms (from_at legs i)))
+
+pub differ : (x y : Bool) → not (beq x y) ≡ true → x ≡ y → ⊥
+differ true true h e = both_ways true (sym h) refl
+differ true false h e = both_ways true e refl
+differ false true h e = both_ways true (sym e) refl
+differ false false h e = both_ways true (sym h) refl
+
+pub agree : (x y : Bool) → not (beq x y) ≡ false → x ≡ y
+agree true true h = refl
+agree true false h = absurd (both_ways true h refl)
+agree false true h = absurd (both_ways true h refl)
+agree false false h = refl
+
+-- what lasts from leg to leg: visits stay sound, and while nothing changed no leg before the index has just one station visited
+pub record Kept (legs : List Leg) (was : List Bool) (i : ℕ) (changed : Bool) (visited : List Bool) : Type 0 where
+  pub sound : Sound legs visited
+  pub long : length visited ≡ length was
+  pub more : changed ≡ true → open_legs legs visited < open_legs legs was
+  pub same : changed ≡ false → visited ≡ was
+  pub closed : changed ≡ false → (j : ℕ) → j < i → visited_at visited (from_at legs j) ≡ visited_at visited (to_at legs j)
+
+pub takes : (legs : List Leg) (was visited : List Bool) (i : ℕ) (changed : Bool) → Kept legs was i changed visited → i < length legs → from_at legs i < length visited → to_at legs i < length visited → (visited_at visited (from_at legs i) ≡ visited_at visited (to_at legs i) → ⊥) → Kept legs was (i + 1) true (set (set visited (from_at legs i) true) (to_at legs i) true)
+takes legs was visited i changed k l la lb half =
+    let f = open_falls legs visited i l la lb k.sound half in
+    record {
+      sound = sound_more legs visited i l la lb k.sound half;
+      long = simp length-set k.long;
+      more = λ t. ⊎_elim
+          (λ (c : changed ≡ true). let g = k.more c in omega arith)
+          (λ (c : changed ≡ false). let g = ap (open_legs legs) (k.same c) in omega arith)
+          (cases_Bool changed);
+      same = λ t. absurd (both_ways true t refl);
+      closed = λ t. absurd (both_ways true t refl);
+    }
+
+pub keeps : (legs : List Leg) (was visited : List Bool) (i : ℕ) (changed : Bool) → Kept legs was i changed visited → visited_at visited (from_at legs i) ≡ visited_at visited (to_at legs i) → Kept legs was (i + 1) changed visited
+keeps legs was visited i changed k e = record { sound = k.sound; long = k.long; more = k.more; same = k.same; closed = λ c. below_more _ _ (k.closed c) e }
+
+pub as_is : (legs : List Leg) (was visited visited' : List Bool) (i : ℕ) (changed changed' : Bool) → visited' ≡ visited → changed' ≡ changed → Kept legs was i changed visited → Kept legs was i changed' visited'
+as_is legs was visited visited' i changed changed' p q k = rw (p, q) k

@@ -1,11 +1,11 @@
 // Which legs are joined to leg 0: visits spread over the stations until nothing changes.
 ghost use Rattle.std.specs.Prelude.{◌≡◌, ◌<◌, true, false, not, length, slice_set};
 ghost use Rattle.std.specs.Bool.{beq};
-ghost use Rattle.survey.specs.Model.{valid_legs};
-ghost use Rattle.embedding.specs.Plans.{first_apart};
-ghost use Rattle.embedding.specs.Tables.{Holds};
+ghost use Rattle.embedding.specs.Walks.{below};
+ghost use Rattle.embedding.specs.Plans.{first_apart as first_apart_of};
 ghost use Rattle.plan_check.specs.Visits.{visited_at, Sound, Closed, open_legs};
 
+use embedding::cave::Cave;
 use survey::leg::Leg;
 
 // Just one of the two stations of a leg is visited.
@@ -26,62 +26,40 @@ fn visit_both(visited: &mut [bool], leg: &Leg)
 }
 
 // Visits both stations of each leg that has one of them visited; false where there is none.
-fn spread(legs: &[Leg], visited: &mut [bool]) -> bool
-    requires valid { valid_legs legs.now ≡ true }
+fn spread(cave: &Cave, visited: &mut [bool]) -> bool
     requires long { length visited.old ≡ 10000 }
-    requires sound { Sound legs.now visited.old }
-    ensures sound { Sound legs.now visited.new }
-    ensures more { result ≡ true → open_legs legs.now visited.new < open_legs legs.now visited.old }
-    ensures done { result ≡ false → Closed legs.now visited.new }
+    requires sound { Sound cave.now.legs.now visited.old }
+    ensures sound { Sound cave.now.legs.now visited.new }
+    ensures more { result ≡ true → open_legs cave.now.legs.now visited.new < open_legs cave.now.legs.now visited.old }
+    ensures done { result ≡ false → Closed cave.now.legs.now visited.new }
 {
     let mut changed = false;
-    for i in 0..legs.len() {
-        if is_half_visited(visited, &legs[i]) {
-            visit_both(visited, &legs[i]);
+    for leg in cave.legs {
+        if is_half_visited(visited, leg) {
+            visit_both(visited, leg);
             changed = true;
         }
     }
     changed
 }
 
-// Visits the stations of all legs that are joined to leg 0.
-fn visit_joined(legs: &[Leg], visited: &mut [bool])
-    requires valid { valid_legs legs.now ≡ true }
-    requires some { 0 < length legs.now }
-    requires long { length visited.old ≡ 10000 }
-    requires blank { Holds false (λ _. false) visited.old 10000 }
-    ensures sound { Sound legs.now visited.new }
-    ensures closed { Closed legs.now visited.new }
-{
-    visit_both(visited, &legs[0]);
-    while spread(legs, visited) {}
-}
-
-// The lowest leg whose stations are not visited, or the count.
-fn find_unvisited(legs: &[Leg], visited: &[bool]) -> usize
-    requires valid { valid_legs legs.now ≡ true }
-    requires some { 0 < length legs.now }
-    requires long { length visited.now ≡ 10000 }
-    requires sound { Sound legs.now visited.now }
-    requires closed { Closed legs.now visited.now }
-    ensures { result ≡ first_apart legs.now }
-{
-    for i in 0..legs.len() {
-        let from = legs[i].from as usize;
-        if !visited[from] {
-            return i;
-        }
-    }
-    legs.len()
-}
-
-/// The lowest leg that is not joined to leg 0, or the count.
-pub fn find_apart(legs: &[Leg]) -> usize
-    requires valid { valid_legs legs.now ≡ true }
-    requires some { 0 < length legs.now }
-    ensures { result ≡ first_apart legs.now }
+// The stations of all legs that are joined to leg 0 are visited.
+fn visit_joined(cave: &Cave) -> [bool; 10000]
+    requires { 0 < length cave.now.legs.now }
+    ensures sound { Sound cave.now.legs.now result }
+    ensures closed { Closed cave.now.legs.now result }
 {
     let mut visited = [false; 10000];
-    visit_joined(legs, &mut visited);
-    find_unvisited(legs, &visited)
+    visit_both(&mut visited, &cave.legs[0]);
+    while spread(cave, &mut visited) {}
+    visited
+}
+
+/// The lowest leg that is not joined to leg 0, if there is one.
+pub fn first_apart(cave: &Cave) -> Option<usize>
+    requires { 0 < length cave.now.legs.now }
+    ensures { result ≡ below (length cave.now.legs.now) (first_apart_of cave.now.legs.now) }
+{
+    let visited = visit_joined(cave);
+    (0..cave.legs.len()).find(|&i| !visited[cave.legs[i].from as usize])
 }

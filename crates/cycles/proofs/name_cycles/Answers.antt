@@ -1,13 +1,14 @@
 -- One number more: it names its cycle, or has a name already.
-use Rattle.std.proofs.Common.{ℕ, ◌+◌, List, sym, subst, arith}
+use Rattle.std.proofs.Common.{ℕ, ◌+◌, List, sym, subst, arith, rules}
 use Rattle.embedding.specs.Tables.{Holds}
+use Rattle.embedding.proofs.Telling.{holds_told}
 use Rattle.cycles.specs.Cycles.{named_below}
 use Rattle.cycles.proofs.Naming.{named_none, named_skip, named_all}
 use Rattle.cycles.proofs.name_cycles.Goals as goal
 use Rattle.cycles.proofs.name_cycles.Goals.{then-names-e, else-names-e}
 
 pub loop-e-init : goal.loop-e-init
-loop-e-init c = named_none c.args.steps.now c.args.n c.requires.permutes _ c.clear_names.ensures
+loop-e-init c = named_none c.args.steps.now c.args.n c.requires.permutes _ (holds_told 0 (λ _. c.args.n) c.args.n (omega arith) c.fill.ensures.told (λ e v l p. search rules))
 
 pub loop-e-preserved : goal.loop-e-preserved
 loop-e-preserved c =

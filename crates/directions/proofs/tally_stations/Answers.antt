@@ -1,18 +1,20 @@
 -- The keys are stations, and the tally counts by them.
-use Rattle.std.proofs.Common.{◌∙◌, arith}
+use Rattle.std.proofs.Common.{ap, ◌∙◌, arith}
+use Rattle.std.proofs.lemmas.List.{get_or-replicate}
 use Rattle.embedding.proofs.Distinct.{station_lt}
+use Rattle.cycles.specs.Cycles.{tallied}
 use Rattle.directions.proofs.Chosen.{tallied_at}
 use Rattle.directions.proofs.tally_stations.Goals as goal
 
 pub tally-requires : goal.tally-requires
 tally-requires c =
-    let legs = c.args.legs.now in
+    let cave = c.args.cave.now in
     record {
       keyed = omega arith;
-      chosen = c.requires.room;
-      inside = λ k l. let a = c.fill_stations.ensures k l in let b = station_lt legs k c.requires.valid l in omega arith;
-      blank = λ e l. c.requires.blank e (omega arith);
+      chosen = omega arith;
+      inside = λ k l. let a = c.stations.ensures k (omega arith) in let b = station_lt cave.legs.now k cave.valid (omega arith) in omega arith;
+      blank = λ e l. get_or-replicate 10000 e 0 0 l;
     }
 
 pub returns : goal.returns
-returns c e l = c.tally.ensures e (omega arith) ∙ tallied_at c.args.legs.now _ c.args.chosen.now c.fill_stations.ensures e
+returns c e l = c.tally.ensures e (omega arith) ∙ ap (λ n. tallied c.stations.result c.args.chosen.now n e) c.ends.ensures ∙ tallied_at c.args.cave.now.legs.now c.stations.result c.args.chosen.now c.stations.ensures e

@@ -1,20 +1,20 @@
--- One end more is counted, or passed over.
-use Rattle.std.proofs.Common.{sym, ◌∙◌, arith}
-use Rattle.std.proofs.lemmas.Bool.{eq-eqb, ne_eqb}
-use Rattle.survey.specs.Ends.{first_at_station}
-use Rattle.cycles.proofs.Tables.{count_yes, count_no}
-use Rattle.rotation.proofs.Chain.{first_is}
+-- The ends that the chain counts are the first ones of their stations.
+use Rattle.std.proofs.Common.{ℕ, Bool, None, get_or, sym, ap, ◌∙◌, arith, rules, tests}
+use Rattle.std.proofs.lemmas.Iterator.{YieldsList-from_range}
+use Rattle.std.proofs.lemmas.Iterator.Consumers.{YieldsList-from_filter, count_from_yields_List}
+use Rattle.std.proofs.lemmas.List.Sums.{length-filter}
+use Rattle.survey.specs.Counting.{count}
+use Rattle.survey.specs.Ends.{ends, first_at_station}
+use Rattle.cycles.proofs.Tables.{count_same, count_range}
+use Rattle.rotation.proofs.Chain.{none, first_is}
 use Rattle.rotation.proofs.count_firsts.Goals as goal
-use Rattle.rotation.proofs.count_firsts.Goals.{then-chains-e-eq0, else-chains-e-eq0}
 
-pub loop-e-preserved : goal.loop-e-preserved
-loop-e-preserved c =
-    let legs = c.args.legs.now in
-    let e = c.loop-e.e in
-    let at = c.requires.linked e (omega arith) in
-    let n = c.loop-e.invariant.0 in
-    let b = c.loop-e.invariant.1 in
-    elim c.if-chains-e-eq0.branch [
-      | then-chains-e-eq0 w ↦ (let y = count_yes (first_at_station legs) e (first_is legs e ∙ eq-eqb _ 0 (sym at ∙ w.if-chains-e-eq0.true)) in let q = w.n-is in (omega arith, omega arith))
-      | else-chains-e-eq0 w ↦ (let y = count_no (first_at_station legs) e (first_is legs e ∙ ne_eqb _ 0 (λ z. w.if-chains-e-eq0.false (at ∙ z))) in let q = w.n-is in (omega arith, omega arith))
-    ]
+pub returns : goal.returns
+returns c =
+    let legs = c.args.cave.now.legs.now in
+    let p : ℕ → Bool = λ e. none (get_or c.args.befores.now e None) in
+    count_from_yields_List c.filter.result _ c.count.ensures.ran (YieldsList-from_filter _ p (YieldsList-from_range 0 c.ends.result c.ends.result (cc) (omega arith)) c.filter.ensures.closure (λ x r q k. search (rules, tests)))
+    ∙ length-filter p _
+    ∙ count_range p c.ends.result
+    ∙ ap (count p) c.ends.ensures
+    ∙ count_same p (first_at_station legs) (ends legs) (λ e l. ap none (c.requires.linked e l) ∙ sym (first_is legs e))

@@ -1,0 +1,11 @@
+-- The table holds what its closure says.
+use Rattle.std.proofs.Common.{false, eqb, arith, rules}
+use Rattle.survey.specs.Ends.{station}
+use Rattle.embedding.proofs.Telling.{holds_told}
+use Rattle.directions.specs.Tallies.{chosen_at}
+use Rattle.directions.proofs.without.Goals as goal
+
+pub returns : goal.returns
+returns c =
+    let legs = c.args.cave.now.legs.now in
+    holds_told false (λ e. eqb (chosen_at legs c.args.chosen.now (station legs e)) 0) _ (omega arith) c.table.ensures (λ e v l p. search rules)

@@ -1,0 +1,63 @@
+// The legs of a cave, and the ends of its legs.
+ghost use Rattle.std.specs.Prelude.{◌≡◌, ◌<◌, ◌≤◌, true, length};
+ghost use Rattle.survey.specs.Ends.{ends as ends_of, station as station_of, bearing as bearing_of, far_bearing as far_bearing_of};
+ghost use Rattle.survey.specs.Model.{valid_legs};
+ghost use Rattle.embedding.specs.Tables.{Holds};
+
+use crate::tables::table;
+use survey::leg::Leg;
+
+/// A list of at most 256 legs that a survey can hold.
+#[derive(Clone, Copy)]
+pub struct Cave<'a> {
+    pub legs: &'a [Leg],
+    ghost valid: { valid_legs legs.now ≡ true },
+    ghost few: { length legs.now ≤ 256 },
+}
+
+// The bearing at the leg's far end.
+fn far_bearing(leg: &Leg) -> u32
+    ensures { result ≡ far_bearing_of leg.now }
+{
+    ((u64::from(leg.bearing) + 1800) % 3600) as u32
+}
+
+impl<'a> Cave<'a> {
+    /// The number of ends.
+    pub fn ends(&self) -> usize
+        ensures { result ≡ ends_of self.now.legs.now }
+    {
+        2 * self.legs.len()
+    }
+
+    /// The station at which an end stands.
+    pub fn station(&self, e: usize) -> u32
+        requires { e < ends_of self.now.legs.now }
+        ensures at { result ≡ station_of self.now.legs.now e }
+        ensures within { result < 10000 }
+    {
+        let leg = &self.legs[e / 2];
+        if e % 2 == 0 { leg.from } else { leg.to }
+    }
+
+    /// The bearing of an end, seen from its station.
+    pub fn bearing(&self, e: usize) -> u32
+        requires { e < ends_of self.now.legs.now }
+        ensures at { result ≡ bearing_of self.now.legs.now e }
+        ensures within { result < 3600 }
+    {
+        let leg = &self.legs[e / 2];
+        if e % 2 == 0 {
+            leg.bearing
+        } else {
+            far_bearing(leg)
+        }
+    }
+
+    /// The station of each end, as a table.
+    pub fn stations(&self) -> [usize; 512]
+        ensures { Holds 0 (station_of self.now.legs.now) result (ends_of self.now.legs.now) }
+    {
+        table(self.ends(), 0, |e| self.station(e) as usize)
+    }
+}

@@ -1,0 +1,28 @@
+-- The table of steps is the face walk, and the names of its cycles are the faces.
+use Rattle.std.proofs.Common.{ℕ, get_or, sym, ap, ◌∙◌, subst, arith, rules}
+use Rattle.survey.specs.Ends.{ends}
+use Rattle.embedding.specs.Walks.{lowest}
+use Rattle.embedding.specs.Laws.{Permutes}
+use Rattle.embedding.specs.Rotation.{face_step, face}
+use Rattle.embedding.proofs.Orbit.{permutes_same, lowest_same}
+use Rattle.embedding.proofs.Distinct.{distinct}
+use Rattle.embedding.proofs.Faces.{walks}
+use Rattle.faces.proofs.walks.Faces.new.Goals as goal
+
+pub name_cycles-requires : goal.name_cycles-requires
+name_cycles-requires c =
+    let legs = c.args.rotation.cave.legs.now in
+    record {
+      permutes = subst (Permutes (λ e. get_or c.steps.result e 0)) (sym c.ends.ensures) (permutes_same (ends legs) (face_step legs) _ (walks legs (distinct legs c.args.rotation.cave.valid)) c.steps.ensures);
+      stepped = omega arith;
+      room = omega arith;
+    }
+
+pub invariant_of-result : goal.invariant_of-result
+unfolding face
+invariant_of-result c = record {
+  full = search rules;
+  named = λ e l.
+      let legs = c.args.rotation.cave.legs.now in
+      c.name_cycles.ensures e (omega arith) ∙ ap (λ (n : ℕ). lowest (λ x. get_or c.steps.result x 0) n e) c.ends.ensures ∙ lowest_same (ends legs) (face_step legs) _ (walks legs (distinct legs c.args.rotation.cave.valid)) c.steps.ensures (ends legs) e l;
+}

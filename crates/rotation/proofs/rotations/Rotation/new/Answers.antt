@@ -1,0 +1,15 @@
+-- Fresh places hold none, and the table holds what its closure says.
+use Rattle.std.proofs.Common.{None, arith, rules}
+use Rattle.std.proofs.lemmas.List.{get_or-replicate}
+use Rattle.embedding.specs.Rotation.{next}
+use Rattle.embedding.proofs.Telling.{holds_told}
+use Rattle.rotation.proofs.rotations.Rotation.new.Goals as goal
+
+pub link-befores-requires-clause-blank : goal.link-befores-requires-clause-blank
+link-befores-requires-clause-blank c e l = get_or-replicate 10000 e None None l
+
+pub invariant_of-result : goal.invariant_of-result
+invariant_of-result c = record {
+  full = search rules;
+  follows = holds_told 0 (next c.args.cave.legs.now) _ (omega arith) c.table-nexts.ensures (λ e v l p. search rules);
+}
