@@ -10,6 +10,8 @@ ghost use Rattle.price.specs.Lex.{ranked_laws};
 
 /// A kind of price: an ordered commutative group in which each price has a size.
 /// Sums are exact while the sizes added come to at most 2^40.
+/// The methods are not those of `Add`, `Neg` and `PartialOrd`, whose contracts are ghost members of their own:
+/// each would need a law here that ties it to `ops`, and each sum in generic code a proof by that law.
 pub trait Price: Copy {
     ghost ops: { Ops Self };
 
@@ -35,7 +37,7 @@ pub trait Price: Copy {
 }
 
 /// A whole number.
-#[derive(Clone, Copy)]
+#[derive(Clone, Copy, Debug, Default, PartialEq, Eq, PartialOrd, Ord, Hash)]
 pub struct Plain {
     pub value: i64,
 }
@@ -65,7 +67,7 @@ impl Price for Plain {
 }
 
 /// Two whole numbers, of which the first decides.
-#[derive(Clone, Copy)]
+#[derive(Clone, Copy, Debug, Default, PartialEq, Eq, PartialOrd, Ord, Hash)]
 pub struct Ranked {
     pub first: i64,
     pub second: i64,
@@ -77,10 +79,9 @@ impl Price for Ranked {
     ghost laws = { ranked_laws };
 
     fn zero() -> Ranked {
-        let nothing = 0;
         Ranked {
-            first: nothing,
-            second: nothing,
+            first: 0,
+            second: 0,
         }
     }
 
@@ -99,13 +100,7 @@ impl Price for Ranked {
     }
 
     fn at_most(self, other: Ranked) -> bool {
-        if self.first < other.first {
-            true
-        } else if other.first < self.first {
-            false
-        } else {
-            self.second <= other.second
-        }
+        self <= other
     }
 }
 
@@ -134,7 +129,7 @@ pub trait Tariff {
 }
 
 /// A bend costs the weight of its leg.
-#[derive(Clone, Copy)]
+#[derive(Clone, Copy, Debug, Default, PartialEq, Eq, PartialOrd, Ord, Hash)]
 pub struct PlainTariff;
 
 impl Tariff for PlainTariff {
@@ -146,10 +141,9 @@ impl Tariff for PlainTariff {
 
     ghost small = { Prim.search rules };
 
-    fn bend_price(&self, weight: u32, wet: u32) -> Plain
-        ensures { result ≡ plain_rate weight wet }
+    fn bend_price(&self, weight: u32, _wet: u32) -> Plain
+        ensures { result ≡ plain_rate weight _wet }
     {
-        let _unused = wet;
         Plain {
             value: weight as i64,
         }
@@ -157,7 +151,7 @@ impl Tariff for PlainTariff {
 }
 
 /// A bend costs the weight of its leg, and any bend on a wet leg more than all on dry ones.
-#[derive(Clone, Copy)]
+#[derive(Clone, Copy, Debug, Default, PartialEq, Eq, PartialOrd, Ord, Hash)]
 pub struct RankedTariff;
 
 impl Tariff for RankedTariff {
@@ -175,12 +169,12 @@ impl Tariff for RankedTariff {
         if wet == 1 {
             Ranked {
                 first: weight as i64,
-                second: 0,
+                ..Ranked::zero()
             }
         } else {
             Ranked {
-                first: 0,
                 second: weight as i64,
+                ..Ranked::zero()
             }
         }
     }

@@ -1,11 +1,11 @@
 pub mod Front
 pub mod Pigeon
-pub mod Tries
 pub mod Sweep
 pub mod Tree
 pub mod Rounds
 pub mod Going
 pub mod Next
 pub mod Twins
+pub mod Keys
 pub mod Residual
 pub mod Settles

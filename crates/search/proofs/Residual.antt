@@ -1,15 +1,18 @@
 -- The moves that a flow leaves, side by side: which move a side is, that every move can be tried, and that its end names it.
-use Rattle.std.proofs.Common.{◌≡◌, ℕ, ◌%◌, ◌<◌, ◌≤◌, Bool, true, false, cond, not, ◌&&◌, ◌||◌, eqb, ltb, ◌⊎◌, List, length, sym, refl, ap, ◌∙◌, subst, inl, inr, ⊎_elim, arith}
+use Rattle.std.proofs.Common.{◌≡◌, ℕ, ◌%◌, ◌<◌, ◌≤◌, Bool, true, false, cond, not, ◌&&◌, ◌||◌, eqb, ltb, ◌⊎◌, List, length, sym, refl, ap, ◌∙◌, subst, inl, inr, ⊎_elim, Option, Some, None, arith}
+use Rattle.std.specs.Option.{ForSome}
 use Rattle.std.proofs.lemmas.Bool.{cases_lt, cond-true, cond-false, cond_both, ne_eqb, lt-ltb, le-ltb}
 use Rattle.price.specs.Laws.{Ops, Laws}
 use Rattle.price.proofs.Order.{le_refl}
 use Rattle.search.specs.declared.Label.{Label}
+use Rattle.search.specs.declared.Bend.{Bend}
 use Rattle.search.specs.declared.Side.{Side}
 use Rattle.search.specs.Labels.{label_at}
 use Rattle.search.specs.Moves.{Move, better, moved}
 use Rattle.search.specs.Paths.{Named}
 use Rattle.search.specs.Networks.{twin, Network, cost_of, cost_by, move_by, move, Open, Usable}
-use Rattle.search.specs.Sides.{side_at, fee_of, network, Keyed, Proper}
+use Rattle.search.specs.Sides.{side_at, bends_fee, network, Proper}
+use Rattle.search.proofs.Keys.{key, key_is}
 use Rattle.search.proofs.Sweep.{Fit, AllFit}
 use Rattle.search.proofs.Twins.{twin_inside}
 
@@ -75,23 +78,23 @@ module _ {P : Type 0} {ops : Ops P} (L : Laws ops) where
   self_moved labels v e = cond-false _ _ _ (self_quiet labels v e)
 
   module _ (n : ℕ) (rate : ℕ → ℕ → P) (sides : List Side) (proper : Proper n sides) (low : (a b : ℕ) → ops.leq ops.zero (rate a b) ≡ true) (small : (a b : ℕ) → a ≤ 1000 → ops.size (rate a b) ≤ 1000) where
-    fee_paid : (d : Side) → ops.leq ops.zero (fee_of ops rate d) ≡ true
-    fee_paid d = cond_both d.free ops.zero (ops.plus (rate d.weight d.wet) (rate d.weight d.wet)) (λ z. ops.leq ops.zero z ≡ true) (λ _. le_refl L ops.zero)
-        (λ _. L.trans _ _ _ (low d.weight d.wet) (subst (λ z. ops.leq z (ops.plus (rate d.weight d.wet) (rate d.weight d.wet)) ≡ true) (L.comm ops.zero _ ∙ L.unit _) (L.kept ops.zero (rate d.weight d.wet) (rate d.weight d.wet) (low d.weight d.wet))))
+    fee_paid : (b : Option Bend) → ops.leq ops.zero (bends_fee ops rate b) ≡ true
+    fee_paid None = le_refl L ops.zero
+    fee_paid (Some b) = L.trans _ _ _ (low b.weight b.wet) (subst (λ z. ops.leq z (ops.plus (rate b.weight b.wet) (rate b.weight b.wet)) ≡ true) (L.comm ops.zero _ ∙ L.unit _) (L.kept ops.zero (rate b.weight b.wet) (rate b.weight b.wet) (low b.weight b.wet)))
 
-    fee_cheap : (d : Side) → d.weight ≤ 1000 → ops.size (fee_of ops rate d) ≤ 2000
-    fee_cheap d h = cond_both d.free ops.zero (ops.plus (rate d.weight d.wet) (rate d.weight d.wet)) (λ z. ops.size z ≤ 2000) (λ _. let z = L.size_zero in omega arith)
-        (λ _. let a = L.size_plus (rate d.weight d.wet) (rate d.weight d.wet) in let b = small d.weight d.wet h in omega arith)
+    fee_cheap : (b : Option Bend) → ForSome b (λ x. x.weight ≤ 1000) → ops.size (bends_fee ops rate b) ≤ 2000
+    fee_cheap None h = let z = L.size_zero in omega arith
+    fee_cheap (Some b) h = let a = L.size_plus (rate b.weight b.wet) (rate b.weight b.wet) in let c = small b.weight b.wet (h b refl) in omega arith
 
-    pub sound : (side : ℕ → ℕ → ℕ) → Keyed sides side → Sound ops n (network ops rate sides) side
-    sound side keyed = record {
+    pub sound : Sound ops n (network ops rate sides) (key sides)
+    sound = record {
       even = proper.even;
       inside = proper.inside;
       low = proper.low;
-      keyed = keyed;
-      paired = λ s b. λ i. cond (proper.free s b i) ops.zero (ops.plus (rate (proper.weight s b i) (proper.wet s b i)) (rate (proper.weight s b i) (proper.wet s b i)));
-      cheap = λ s b. fee_cheap (side_at sides s) (proper.light s b);
-      paid = λ s b. fee_paid (side_at sides s);
+      keyed = key_is sides proper.keyed;
+      paired = λ s b. ap (bends_fee ops rate) (proper.paired s b);
+      cheap = λ s b. fee_cheap (side_at sides s).bend (proper.light s b);
+      paid = λ s b. fee_paid (side_at sides s).bend;
     }
 
   pub all_fit : (n : ℕ) (w : Network P) (side : ℕ → ℕ → ℕ) → Sound ops n w side → (f : ℕ → ℕ) → AllFit ops n w.count (move ops w f)

@@ -9,6 +9,7 @@ use Rattle.search.specs.Paths.{Safe, Named, Settled}
 use Rattle.search.specs.Networks.{units}
 use Rattle.search.specs.Sides.{network, residual, Proper, WithinRoom}
 use Rattle.search.proofs.Sweep.{AllFit, start, front, front_at, swept_front, swept_keeps, sized_sweep}
+use Rattle.search.proofs.Keys.{key}
 use Rattle.search.proofs.Going.{Going, going_next, going_end}
 use Rattle.search.proofs.Residual.{Sound, sound, all_fit, from_at, named}
 
@@ -25,11 +26,11 @@ module _ {P : Type 0} {ops : Ops P} (L : Laws ops) (n : ℕ) (rate : ℕ → ℕ
   abbrev moves : ℕ → Move P
   moves = residual ops rate sides flow
 
-  sd : Sound ops n (network ops rate sides) proper.keyed.0
-  sd = sound L n rate sides proper low small proper.keyed.0 proper.keyed.1
+  sd : Sound ops n (network ops rate sides) (key sides)
+  sd = sound L n rate sides proper low small
 
   fit : AllFit ops n (length sides) moves
-  fit = all_fit L n (network ops rate sides) proper.keyed.0 sd (units flow)
+  fit = all_fit L n (network ops rate sides) (key sides) sd (units flow)
 
   few : length sides ≤ 4095
   few = let h = proper.few in omega arith
@@ -54,7 +55,7 @@ module _ {P : Type 0} {ops : Ops P} (L : Laws ops) (n : ℕ) (rate : ℕ → ℕ
       roots = keeps.1;
       small = λ b h v lt. let q = sizes.0 v lt in let f = proper.few in omega arith;
       long = sizes.1;
-      next = λ h. going_next L (length sides) moves n r (take n places) going fit few (from_at ops (network ops rate sides) proper.keyed.0 (units flow)) pot (named ops n (network ops rate sides) proper.keyed.0 sd (units flow) room) safe
+      next = λ h. going_next L (length sides) moves n r (take n places) going fit few (from_at ops (network ops rate sides) (key sides) (units flow)) pot (named ops n (network ops rate sides) (key sides) sd (units flow) room) safe
           (record { changed = changed; labels = take n after }) round_front h;
       rest = λ h from nm. going_end L (length sides) moves n r (take n places) going fit few from pot nm safe (record { changed = changed; labels = take n after }) round_front h;
     }

@@ -1,15 +1,12 @@
 -- Paired sides by number, the units on them, and the moves that are open.
-use Rattle.std.specs.Prelude.{ℕ, ◌+◌, ◌-◌, ◌%◌, ◌<◌, cond, ◌⊎◌, List, ◌==◌, nat_lt, slice_index}
+use Rattle.std.specs.Prelude.{ℕ, ◌<◌, cond, ◌⊎◌, List, nat_lt, slice_index}
+use Rattle.pairs.specs.Pairs.{twin as other_of}
 use Rattle.price.specs.Laws.{Ops}
 use Rattle.search.specs.Moves.{Move}
 
--- the two sides of a pair are 2k and 2k + 1
-abbrev pub twin_of : ℕ → ℕ
-twin_of s = cond (s % 2 == 0) (s + 1) (s - 1)
-
--- the same, kept shut in proofs
+-- the two sides of a pair are 2k and 2k + 1; kept shut in proofs
 unfoldable pub twin : ℕ → ℕ
-twin s = twin_of s
+twin s = other_of s
 
 -- how many units side s carries, or node s wants or gives
 abbrev pub units : List ℕ → ℕ → ℕ

@@ -1,19 +1,26 @@
 -- Sides as the program holds them, and the network that they make at a tariff.
-use Rattle.std.specs.Prelude.{◌≡◌, ℕ, ◌%◌, ◌<◌, ◌≤◌, false, cond, ◌⊎◌, List, length, slice_index_or}
+use Rattle.std.specs.Prelude.{◌≡◌, ℕ, ◌%◌, ◌<◌, ◌≤◌, ◌⊎◌, List, length, Option, Some, None, slice_index_or}
+use Rattle.std.specs.Option.{ForSome}
 use Rattle.price.specs.Laws.{Ops}
+use Rattle.search.specs.declared.Bend.{Bend}
 use Rattle.search.specs.declared.Side.{Side}
 use Rattle.search.specs.Moves.{Move}
 use Rattle.search.specs.Networks.{Network, twin, units, move}
 
 abbrev pub no_side : Side
-no_side = record { node = 0; end = 0; room = 0; weight = 0; wet = 0; free = false }
+no_side = record { node = 0; end = 0; room = 0; bend = None }
 
 abbrev pub side_at : List Side → ℕ → Side
 side_at sides s = slice_index_or sides s no_side
 
--- a unit over a side costs two bends, or nothing where the side is free
+-- two bends, or nothing where there is none
+abbrev pub bends_fee : {P : Type 0} → Ops P → (ℕ → ℕ → P) → Option Bend → P
+bends_fee ops rate None = ops.zero
+bends_fee ops rate (Some b) = ops.plus (rate b.weight b.wet) (rate b.weight b.wet)
+
+-- a unit over a side costs two of its bends
 abbrev pub fee_of : {P : Type 0} → Ops P → (ℕ → ℕ → P) → Side → P
-fee_of ops rate d = cond d.free ops.zero (ops.plus (rate d.weight d.wet) (rate d.weight d.wet))
+fee_of ops rate d = bends_fee ops rate d.bend
 
 abbrev pub network : {P : Type 0} → Ops P → (ℕ → ℕ → P) → List Side → Network P
 network ops rate sides = record {
@@ -28,9 +35,13 @@ network ops rate sides = record {
 abbrev pub residual : {P : Type 0} → Ops P → (ℕ → ℕ → P) → List Side → List ℕ → ℕ → Move P
 residual ops rate sides flow = move ops (network ops rate sides) (units flow)
 
+-- a side that can ever be open
+abbrev pub CanOpen : List Side → ℕ → Type 0
+CanOpen sides s = (0 < (side_at sides s).room) ⊎ (0 < (side_at sides (twin s)).room)
+
 -- the node that a side leads to and its end tell the side, among those that can ever be open
-abbrev pub Keyed : List Side → (ℕ → ℕ → ℕ) → Type 0
-Keyed sides side = (s : ℕ) → s < length sides → (0 < (side_at sides s).room) ⊎ (0 < (side_at sides (twin s)).room) → side (side_at sides s).node (side_at sides s).end ≡ s
+abbrev pub Keyed : List Side → Type 0
+Keyed sides = (s t : ℕ) → s < length sides → t < length sides → CanOpen sides s → CanOpen sides t → (side_at sides s).node ≡ (side_at sides t).node → (side_at sides s).end ≡ (side_at sides t).end → s ≡ t
 
 -- no side carries more than its room
 abbrev pub WithinRoom : List Side → List ℕ → Type 0
@@ -42,9 +53,7 @@ pub record Proper (n : ℕ) (sides : List Side) : Type 0 where
   pub even : length sides % 2 ≡ 0
   pub inside : (s : ℕ) → s < length sides → (side_at sides s).node < n
   pub low : (s : ℕ) → s < length sides → (side_at sides s).end < 65533
-  pub light : (s : ℕ) → s < length sides → (side_at sides s).weight ≤ 1000
+  pub light : (s : ℕ) → s < length sides → ForSome (side_at sides s).bend (λ b. b.weight ≤ 1000)
   pub room : (s : ℕ) → s < length sides → (side_at sides s).room ≤ 1000
-  pub weight : (s : ℕ) → s < length sides → (side_at sides (twin s)).weight ≡ (side_at sides s).weight
-  pub wet : (s : ℕ) → s < length sides → (side_at sides (twin s)).wet ≡ (side_at sides s).wet
-  pub free : (s : ℕ) → s < length sides → (side_at sides (twin s)).free ≡ (side_at sides s).free
-  pub keyed : (side : ℕ → ℕ → ℕ) × Keyed sides side
+  pub paired : (s : ℕ) → s < length sides → (side_at sides (twin s)).bend ≡ (side_at sides s).bend
+  pub keyed : Keyed sides

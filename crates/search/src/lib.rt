@@ -1,16 +1,14 @@
 // Shortest-path search over lent labels, at any kind of price.
 #![tactic(auto)]
 
-ghost use Rattle.std.specs.Prelude.{◌≡◌, ℕ, ◌+◌, ◌^◌, ◌<◌, ◌≤◌, true, false, length, take, slice_set};
+ghost use Rattle.std.specs.Prelude.{◌≡◌, ◌+◌, ◌^◌, ◌<◌, ◌≤◌, length, slice_set};
 ghost use Rattle.slice_vec.specs.Places.{at_item};
-ghost use Rattle.search.specs.Labels.{first_of, blank, label_at, below, improves, tried, Lower, Roots, Sized, Fresh};
-ghost use Rattle.search.specs.Moves.{better, moved, swept};
-ghost use Rattle.search.specs.Paths.{Safe, Named, Settled};
-ghost use Rattle.search.specs.Networks.{twin_of, cost_of};
-ghost use Rattle.search.specs.Sides.{fee_of, residual, Proper, WithinRoom};
+ghost use Rattle.search.specs.Labels.{first_of, blank, label_at, below, improves, tried};
 
-use price::{Price, Tariff};
+use price::Price;
 use slice_vec::SliceVec;
+
+pub mod network;
 
 /// The end of a label without a price.
 pub const NO_PRICE: u16 = 65535;
@@ -19,34 +17,48 @@ pub const NO_PRICE: u16 = 65535;
 pub const ROOT: u16 = 65534;
 
 /// The best price so far at a node, and the end it came by.
-#[derive(Clone, Copy)]
+#[derive(Clone, Copy, Debug, PartialEq, Eq, Hash)]
 pub struct Label<P> {
     pub price: P,
     pub end: u16,
 }
 
+impl<P: Price> Label<P> {
+    /// A label without a price.
+    pub fn none() -> Label<P>
+        ensures { result ≡ blank P.Price.ops }
+    {
+        Label {
+            price: P::zero(),
+            end: NO_PRICE,
+        }
+    }
+}
+
+/// What a tariff is asked for a bend: the weight of its leg and its wet flag.
+#[derive(Clone, Copy, Debug, Default, PartialEq, Eq, Hash)]
+pub struct Bend {
+    pub weight: u32,
+    pub wet: u32,
+}
+
 /// One direction of a pair of opposite arcs. Sides 2k and 2k + 1 are a pair, and each leads from the other's node to its own.
-#[derive(Clone, Copy)]
+/// A unit over it makes two such bends, or none.
+#[derive(Clone, Copy, Debug, Default, PartialEq, Eq, Hash)]
 pub struct Side {
     pub node: u16,
     pub end: u16,
     pub room: u16,
-    pub weight: u32,
-    pub wet: u32,
-    pub free: bool,
+    pub bend: Option<Bend>,
 }
 
 /// The label of a node; one without a price where no label in use is the node's.
+#[tactic(auto, using(crate::proofs::Front::held_at))]
 pub fn label_at<P: Price>(labels: &SliceVec<'_, Label<P>>, node: usize) -> Label<P>
-    ensures { result ≡ first_of (blank P.Price.ops) (at_item labels.now.places.now labels.now.used node) }
+    ensures value { result ≡ first_of (blank P.Price.ops) (at_item labels.now.places.now labels.now.used node) }
+    ensures held { node < labels.now.used → result ≡ label_at P.Price.ops labels.now.places.now node }
 {
-    match labels.read(node) {
-        Ok(label) => label,
-        Err(_) => Label {
-            price: P::zero(),
-            end: NO_PRICE,
-        },
-    }
+    labels.read(node).unwrap_or(Label::none())
 }
 
 /// Puts a label in the place of a node's.
@@ -56,10 +68,7 @@ pub fn set_label<P: Price>(labels: &mut SliceVec<'_, Label<P>>, node: usize, lab
     ensures used { labels.new.used ≡ labels.old.used }
     ensures lender { labels.new.places.ghost_name ≡ labels.old.places.ghost_name }
 {
-    match labels.replace(node, label) {
-        Ok(()) => (),
-        Err(_) => unreachable(),
-    }
+    labels.replace(node, label).unwrap();
 }
 
 /// Puts labels without a price in use until there are as many as nodes.
@@ -70,15 +79,7 @@ pub fn make_labels<P: Price>(labels: &mut SliceVec<'_, Label<P>>, nodes: usize)
     ensures lender { labels.new.places.ghost_name ≡ labels.old.places.ghost_name }
 {
     for _ in labels.len()..nodes {
-        if labels
-            .append(Label {
-                price: P::zero(),
-                end: NO_PRICE,
-            })
-            .is_err()
-        {
-            return;
-        }
+        labels.append(Label::none()).unwrap();
     }
 }
 
@@ -115,116 +116,4 @@ fn beats<P: Price>(price: P, label: Label<P>) -> bool
     ensures { result ≡ below P.Price.ops label price }
 {
     label.end == NO_PRICE || !label.price.at_most(price)
-}
-
-/// The other side of a pair.
-pub fn twin(s: usize) -> usize
-    requires { s < 2 ^ 32 }
-    ensures { result ≡ twin_of s }
-{
-    if s % 2 == 0 { s + 1 } else { s - 1 }
-}
-
-/// What one unit over a side costs: two bends, or nothing where the side is free.
-pub fn fee<T: Tariff>(tariff: &T, side: Side) -> T::Price
-    requires { side.weight ≤ 1000 }
-    ensures value { result ≡ fee_of T.Price.Price.ops (T.Tariff.rate tariff.now) side }
-    ensures small { T.Price.Price.ops.size result ≤ 2000 }
-{
-    if side.free {
-        return <T::Price as Price>::zero();
-    }
-    let bend = tariff.bend_price(side.weight, side.wet);
-    bend.add(bend)
-}
-
-/// What one unit over a side costs, where so many came the other way: it first takes back one that came, and its fee with it.
-pub fn step_cost<P: Price>(fee: P, back: u16) -> P
-    requires { P.Price.ops.size fee ≤ 2000 }
-    ensures { result ≡ cost_of P.Price.ops fee back }
-{
-    if back > 0 { fee.neg() } else { fee }
-}
-
-// Tries to lead on over side s, and tells whether the node it leads to has a better label.
-fn try_side<T: Tariff>(
-    tariff: &T,
-    sides: &[Side],
-    flow: &[u16],
-    labels: &mut SliceVec<'_, Label<T::Price>>,
-    nodes: usize,
-    s: usize,
-) -> bool
-    requires proper { Proper nodes sides.now }
-    requires inside { (s < length sides.now) × (length flow.now ≡ length sides.now) }
-    requires labels { (nodes ≤ labels.old.used) × (nodes ≤ length labels.old.places.now) }
-    requires small { Sized T.Price.Price.ops nodes (2 ^ 39) labels.old.places.now }
-    ensures told { result ≡ better T.Price.Price.ops labels.old.places.now (residual T.Price.Price.ops (T.Tariff.rate tariff.now) sides.now flow.now s) }
-    ensures left { labels.new.places.now ≡ moved T.Price.Price.ops labels.old.places.now (residual T.Price.Price.ops (T.Tariff.rate tariff.now) sides.now flow.now s) }
-    ensures used { labels.new.used ≡ labels.old.used }
-    ensures lender { labels.new.places.ghost_name ≡ labels.old.places.ghost_name }
-{
-    let side = sides[s];
-    let back = twin(s);
-    let origin = sides[back].node as usize;
-    let came = flow[back];
-    if came == 0 && flow[s] >= side.room {
-        return false;
-    }
-    let cost = step_cost(fee(tariff, side), came);
-    try_move(labels, origin, side.node as usize, cost, side.end)
-}
-
-// Tries each side once, and tells whether a label has changed.
-fn round<T: Tariff>(
-    tariff: &T,
-    sides: &[Side],
-    flow: &[u16],
-    labels: &mut SliceVec<'_, Label<T::Price>>,
-    nodes: usize,
-) -> bool
-    requires proper { Proper nodes sides.now }
-    requires inside { length flow.now ≡ length sides.now }
-    requires labels { (nodes ≤ labels.old.used) × (nodes ≤ length labels.old.places.now) }
-    requires small { Sized T.Price.Price.ops nodes (2 ^ 38) labels.old.places.now }
-    ensures swept { record { changed = result; labels = labels.new.places.now } ≡ swept T.Price.Price.ops (record { changed = false; labels = labels.old.places.now }) (residual T.Price.Price.ops (T.Tariff.rate tariff.now) sides.now flow.now) (length sides.now) }
-    ensures used { labels.new.used ≡ labels.old.used }
-    ensures lender { labels.new.places.ghost_name ≡ labels.old.places.ghost_name }
-{
-    let mut changed = false;
-    for s in 0..sides.len() {
-        if try_side(tariff, sides, flow, labels, nodes, s) {
-            changed = true;
-        }
-    }
-    changed
-}
-
-/// Goes round the sides until no label changes: then every price is that of a cheapest chain from a root.
-pub fn settle<T: Tariff>(
-    tariff: &T,
-    sides: &[Side],
-    flow: &[u16],
-    labels: &mut SliceVec<'_, Label<T::Price>>,
-    nodes: usize,
-)
-    requires proper { Proper nodes sides.now }
-    requires inside { (length flow.now ≡ length sides.now) × (0 < nodes) × (nodes ≤ 512) }
-    requires labels { (nodes ≤ labels.old.used) × (nodes ≤ length labels.old.places.now) }
-    requires room { WithinRoom sides.now flow.now }
-    requires safe { (pot : ℕ → T.Price) × Safe T.Price.Price.ops (length sides.now) (residual T.Price.Price.ops (T.Tariff.rate tariff.now) sides.now flow.now) pot }
-    requires fresh { Fresh T.Price.Price.ops (take nodes labels.old.places.now) }
-    ensures settled { (from : ℕ → ℕ → ℕ) → Named (length sides.now) (residual T.Price.Price.ops (T.Tariff.rate tariff.now) sides.now flow.now) from → Settled T.Price.Price.ops from (length sides.now) (residual T.Price.Price.ops (T.Tariff.rate tariff.now) sides.now flow.now) (take nodes labels.new.places.now) }
-    ensures lower { Lower T.Price.Price.ops (take nodes labels.old.places.now) (take nodes labels.new.places.now) }
-    ensures roots { Roots T.Price.Price.ops (take nodes labels.old.places.now) (take nodes labels.new.places.now) }
-    ensures small { Sized T.Price.Price.ops nodes (2 ^ 38) labels.new.places.now }
-    ensures used { labels.new.used ≡ labels.old.used }
-    ensures long { length labels.new.places.now ≡ length labels.old.places.now }
-    ensures lender { labels.new.places.ghost_name ≡ labels.old.places.ghost_name }
-{
-    for _ in 0..nodes {
-        if !round(tariff, sides, flow, labels, nodes) {
-            return;
-        }
-    }
 }
