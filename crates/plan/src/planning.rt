@@ -6,6 +6,7 @@ ghost use Rattle.plan.specs.States.{plan_state, planned_state, state};
 
 use crate::plans::Plan;
 use arrayvec::ArrayVec;
+use embedding::cave::Cave;
 use embedding::outer::OuterSide;
 use plan_check::{check_embedding, check_request};
 use refusal::Refusal;
@@ -33,7 +34,9 @@ fn plan_legs<S: Survey>(survey: &S, outer: OuterSide) -> Result<Plan, Refusal>
     ensures state { IfOk result (λ p. plan_state p ≡ state (S.legs survey.now) outer.leg outer.side) }
 {
     let legs = read_legs(survey);
-    check_embedding(legs.as_slice())?;
+    check_embedding(&Cave {
+        legs: legs.as_slice(),
+    })?;
     Ok(Plan { legs, outer })
 }
 
@@ -43,7 +46,7 @@ pub fn plan<S: Survey>(survey: &S, plan: &mut Plan, outer: OuterSide) -> Result<
     ensures state { plan_state plan.new ≡ planned_state (plan_answer (S.legs survey.now) outer.leg outer.side) (S.legs survey.now) outer.leg outer.side (plan_state plan.old) }
     ensures kept { (told result ≢ accepted) → plan.new ≡ plan.old }
 {
-    check_request(survey.count(), outer.leg, outer.side)?;
+    check_request(survey.count(), outer)?;
     *plan = plan_legs(survey, outer)?;
     Ok(())
 }

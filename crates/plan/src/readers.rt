@@ -7,10 +7,11 @@ ghost use Rattle.plan.specs.States.{plan_legs, plan_state, new_state, face_at, d
 
 use crate::plans::Plan;
 use arrayvec::ArrayVec;
+use embedding::cave::Cave;
 use embedding::outer::OuterSide;
-use faces::{demand_of, fill_faces};
+use faces::Faces;
 use refusal::Refusal;
-use rotation::{count_stations, fill_next};
+use rotation::{Rotation, count_stations};
 use survey::checks::query_leg;
 use survey::leg::Leg;
 
@@ -20,14 +21,7 @@ impl Plan {
         ensures { plan_state result ≡ new_state }
     {
         let mut legs = ArrayVec::new();
-        legs.push(Leg {
-            from: 1,
-            to: 2,
-            bearing: 0,
-            weight: 1,
-            wet: 0,
-            limit: 999,
-        });
+        legs.push(Leg::plain(1, 2, 0));
         Plan {
             legs,
             outer: OuterSide { leg: 0, side: 0 },
@@ -76,11 +70,20 @@ impl Plan {
         2 * self.outer.leg + self.outer.side as usize
     }
 
+    /// The legs as a cave.
+    pub fn cave(&self) -> Cave<'_>
+        ensures { result.legs.now ≡ plan_legs self.now }
+    {
+        Cave {
+            legs: self.as_slice(),
+        }
+    }
+
     /// The number of stations.
     pub fn stations(&self) -> usize
         ensures { result ≡ stations_of (plan_legs self.now) }
     {
-        count_stations(self.as_slice())
+        count_stations(&self.cave())
     }
 
     /// The number of faces, which Euler's formula gives, as a plan is planar.
@@ -94,24 +97,21 @@ impl Plan {
     pub fn face(&self, end: usize) -> Option<usize>
         ensures { result ≡ face_at self.now end }
     {
-        if end >= 2 * self.count() {
+        let cave = self.cave();
+        if end >= cave.ends() {
             return None;
         }
-        let legs = self.as_slice();
-        let mut nexts = [0; 512];
-        let mut faces = [0; 512];
-        fill_next(legs, &mut nexts);
-        fill_faces(legs, &nexts, &mut faces);
-        Some(faces[end])
+        Some(Faces::new(Rotation::new(cave)).face(end))
     }
 
     /// The demand of the face of an end; none where there is no such end.
     pub fn demand(&self, end: usize) -> Option<i64>
         ensures { result ≡ demand_at self.now end }
     {
-        if end >= 2 * self.count() {
+        let cave = self.cave();
+        if end >= cave.ends() {
             return None;
         }
-        Some(demand_of(self.as_slice(), self.outer_end(), end))
+        Some(Faces::new(Rotation::new(cave)).demand_of(self.outer_end(), end))
     }
 }

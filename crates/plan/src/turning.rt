@@ -20,7 +20,7 @@ pub fn turn(plan: Plan, outer: OuterSide) -> Result<Plan, Turned>
     ensures answer { told_turn result ≡ side_answer (length (plan_legs plan)) outer.leg outer.side }
     ensures state { Turns plan outer.leg outer.side result }
 {
-    match check_side(plan.count(), outer.leg, outer.side) {
+    match check_side(plan.count(), outer) {
         Ok(()) => Ok(Plan {
             legs: plan.legs,
             outer,

@@ -10,6 +10,7 @@ pub mod connect;
 use connect::first_apart;
 use directions::first_mixed;
 use embedding::cave::Cave;
+use embedding::outer::OuterSide;
 use faces::Faces;
 use refusal::Refusal;
 use rotation::{Rotation, count_stations};
@@ -28,21 +29,21 @@ fn check_count(count: usize) -> Result<(), Refusal>
 }
 
 /// The outer side is that of a leg below the count, and 0 or 1.
-pub fn check_side(count: usize, leg: usize, side: u32) -> Result<(), Refusal>
-    ensures { told result ≡ side_answer count leg side }
+pub fn check_side(count: usize, outer: OuterSide) -> Result<(), Refusal>
+    ensures { told result ≡ side_answer count outer.leg outer.side }
 {
-    if leg >= count || side > 1 {
+    if outer.leg >= count || outer.side > 1 {
         return Err(Refusal::NoSuchSide(count));
     }
     Ok(())
 }
 
 /// What planning so many legs with this outer side meets before any leg is read.
-pub fn check_request(count: usize, leg: usize, side: u32) -> Result<(), Refusal>
-    ensures { told result ≡ request_answer count leg side }
+pub fn check_request(count: usize, outer: OuterSide) -> Result<(), Refusal>
+    ensures { told result ≡ request_answer count outer.leg outer.side }
 {
     check_count(count)?;
-    check_side(count, leg, side)
+    check_side(count, outer)
 }
 
 // Every leg is joined to leg 0.
