@@ -1,5 +1,5 @@
 // Tables of what a function says.
-ghost use Rattle.std.specs.Prelude.{◌≡◌, ℕ, ◌<◌, ◌≤◌, length};
+ghost use Rattle.std.specs.Prelude.{◌≡◌, ℕ, ◌<◌, ◌≤◌, length, slice_index_or};
 ghost use Rattle.embedding.specs.Tables.{Tells};
 
 /// Writes into each of the first n places what f says of its index.
@@ -8,6 +8,7 @@ pub fn fill<T: Copy, F: Fn(usize) -> T>(table: &mut [T], n: usize, f: F)
     requires called { (e : ℕ) → e < n → F.pre f e }
     ensures long { length table.new ≡ length table.old }
     ensures told { Tells (F.post f) table.new n }
+    ensures rest { (d : T) (e : ℕ) → n ≤ e → slice_index_or table.new e d ≡ slice_index_or table.old e d }
 {
     for e in 0..n {
         table[e] = f(e);
@@ -18,7 +19,8 @@ pub fn fill<T: Copy, F: Fn(usize) -> T>(table: &mut [T], n: usize, f: F)
 pub fn table<T: Copy, const N: usize, F: Fn(usize) -> T>(n: usize, blank: T, f: F) -> [T; N]
     requires room { n ≤ N }
     requires called { (e : ℕ) → e < n → F.pre f e }
-    ensures { Tells (F.post f) result n }
+    ensures told { Tells (F.post f) result n }
+    ensures rest { (e : ℕ) → n ≤ e → slice_index_or result e blank ≡ blank }
 {
     let mut table = [blank; N];
     fill(&mut table, n, f);
