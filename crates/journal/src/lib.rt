@@ -1,11 +1,8 @@
 // The survey journal: accepted changes in lent entries, played again for each call.
 #![tactic(auto)]
 
-ghost use Rattle.std.specs.Prelude.{◌≡◌, true, [], ◌∷◌, ◌≤◌, length, take};
-ghost use Rattle.refusal.specs.Answers.{told, accepted};
-ghost use Rattle.survey.specs.declared.leg.Change.TheVariants.{Enter, Strike, Amend};
-ghost use Rattle.survey.specs.Model.{told_leg, valid_legs, enter_answer, enter_legs, strike_answer, strike_legs, amend_answer, amend_legs, query_answer};
-ghost use Rattle.survey.specs.Changes.{changes};
+ghost use Rattle.std.specs.Prelude.{◌≡◌, true, [], ◌∷◌, length};
+ghost use Rattle.survey.specs.Model.{valid_legs};
 ghost use Rattle.replay.specs.Replay.{changed};
 ghost use Rattle.replay.specs.Entries.{free_entry};
 ghost use Rattle.journal.specs.Journals.{held_entries, taken_entries, journal_changes, journal_legs, has_free_entry, Wrote};
@@ -107,19 +104,15 @@ impl<'a> Survey for SurveyJournal<'a> {
     }
 
     fn strike(&mut self, start: usize, end: usize) -> Result<(), Refusal> {
-        checks::check_strike(self.replayed().len(), self.is_free(), start, end)?;
+        let count = self.replayed().len();
+        checks::check_strike(count, self.is_free(), start, end)?;
         self.write(Change::Strike { start, end });
         Ok(())
     }
 
     fn amend(&mut self, start: usize, end: usize, attributes: Attributes) -> Result<(), Refusal> {
-        checks::check_amend(
-            self.replayed().len(),
-            self.is_free(),
-            start,
-            end,
-            attributes,
-        )?;
+        let count = self.replayed().len();
+        checks::check_amend(count, self.is_free(), start, end, attributes)?;
         self.write(Change::Amend {
             start,
             end,

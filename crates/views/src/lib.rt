@@ -1,12 +1,8 @@
 // Views: any survey seen with its bearings turned, its legs reversed or mirrored, in any stack.
 #![tactic(auto)]
 
-ghost use Rattle.std.specs.Prelude.{◌≡◌, map, length, ◌≢◌, refl};
+ghost use Rattle.std.specs.Prelude.{◌≡◌, map, refl};
 ghost use Rattle.std.proofs.Common.{◌∙◌};
-ghost use Rattle.refusal.specs.Answers.{told, accepted};
-ghost use Rattle.survey.specs.declared.leg.Change.TheVariants.{Enter, Strike, Amend};
-ghost use Rattle.survey.specs.Changes.{changes};
-ghost use Rattle.survey.specs.Model.{told_leg, enter_answer, enter_legs, strike_answer, strike_legs, amend_answer, amend_legs, query_answer};
 ghost use Rattle.view_laws.specs.Sent.{sent};
 ghost use Rattle.view_laws.proofs.Shown.{valid_shown, onward_below};
 
@@ -38,60 +34,37 @@ impl<V: View, S: Survey> Survey for Viewed<V, S> {
     ghost leading = { record { stays = λ s. (refl, S.Survey.leading.stays s.below); onward = λ s t u cs ds p q. (q.0 ∙ p.0, onward_below V.View.sends S.Survey.leading s.view t.view s.below t.below u.below cs ds p.0 p.1 q.1) } };
 
     /// The count of the survey below.
-    fn count(&self) -> usize
-        ensures { result ≡ length (map (V.View.shows self.now.view) (S.Survey.legs self.now.below)) }
-    {
+    fn count(&self) -> usize {
         self.below.count()
     }
 
     /// What the survey below says.
-    fn may_enter(&self) -> bool
-        ensures { result ≡ S.Survey.enters self.now.below }
-    {
+    fn may_enter(&self) -> bool {
         self.below.may_enter()
     }
 
     /// What the survey below says.
-    fn may_amend(&self) -> bool
-        ensures { result ≡ S.Survey.amends self.now.below }
-    {
+    fn may_amend(&self) -> bool {
         self.below.may_amend()
     }
 
     /// Leg i of the survey below, as the view shows it.
-    fn leg(&self, i: usize) -> Result<Leg, Refusal>
-        ensures { told_leg result ≡ query_answer (map (V.View.shows self.now.view) (S.Survey.legs self.now.below)) i }
-    {
+    fn leg(&self, i: usize) -> Result<Leg, Refusal> {
         Ok(self.view.show(self.below.leg(i)?))
     }
 
     /// Sends down the leg that the view then shows as this one.
-    fn enter(&mut self, leg: Leg) -> Result<(), Refusal>
-        ensures answer { told result ≡ enter_answer (map (V.View.shows self.old.view) (S.Survey.legs self.old.below)) (S.Survey.enters self.old.below) leg }
-        ensures list { map (V.View.shows self.new.view) (S.Survey.legs self.new.below) ≡ enter_legs (map (V.View.shows self.old.view) (S.Survey.legs self.old.below)) (S.Survey.enters self.old.below) leg }
-        ensures facts { (told result ≢ accepted) → (S.Survey.enters self.new.below ≡ S.Survey.enters self.old.below) × (S.Survey.amends self.new.below ≡ S.Survey.amends self.old.below) }
-        ensures led { (self.new.view ≡ self.old.view) × S.Survey.leads self.old.below (map (sent (V.View.sends self.old.view)) (changes (told result) (Enter leg))) self.new.below }
-    {
+    fn enter(&mut self, leg: Leg) -> Result<(), Refusal> {
         self.below.enter(self.view.send(leg))
     }
 
     /// Strikes the same range below.
-    fn strike(&mut self, start: usize, end: usize) -> Result<(), Refusal>
-        ensures answer { told result ≡ strike_answer (length (map (V.View.shows self.old.view) (S.Survey.legs self.old.below))) (S.Survey.amends self.old.below) start end }
-        ensures list { map (V.View.shows self.new.view) (S.Survey.legs self.new.below) ≡ strike_legs (map (V.View.shows self.old.view) (S.Survey.legs self.old.below)) (S.Survey.amends self.old.below) start end }
-        ensures facts { (told result ≢ accepted) → (S.Survey.enters self.new.below ≡ S.Survey.enters self.old.below) × (S.Survey.amends self.new.below ≡ S.Survey.amends self.old.below) }
-        ensures led { (self.new.view ≡ self.old.view) × S.Survey.leads self.old.below (map (sent (V.View.sends self.old.view)) (changes (told result) (Strike start end))) self.new.below }
-    {
+    fn strike(&mut self, start: usize, end: usize) -> Result<(), Refusal> {
         self.below.strike(start, end)
     }
 
     /// Amends the same range below.
-    fn amend(&mut self, start: usize, end: usize, attributes: Attributes) -> Result<(), Refusal>
-        ensures answer { told result ≡ amend_answer (length (map (V.View.shows self.old.view) (S.Survey.legs self.old.below))) (S.Survey.amends self.old.below) start end attributes }
-        ensures list { map (V.View.shows self.new.view) (S.Survey.legs self.new.below) ≡ amend_legs (map (V.View.shows self.old.view) (S.Survey.legs self.old.below)) (S.Survey.amends self.old.below) start end attributes }
-        ensures facts { (told result ≢ accepted) → (S.Survey.enters self.new.below ≡ S.Survey.enters self.old.below) × (S.Survey.amends self.new.below ≡ S.Survey.amends self.old.below) }
-        ensures led { (self.new.view ≡ self.old.view) × S.Survey.leads self.old.below (map (sent (V.View.sends self.old.view)) (changes (told result) (Amend start end attributes))) self.new.below }
-    {
+    fn amend(&mut self, start: usize, end: usize, attributes: Attributes) -> Result<(), Refusal> {
         self.below.amend(start, end, attributes)
     }
 }

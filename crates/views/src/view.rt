@@ -1,7 +1,7 @@
 // What a view shows of a leg, and the leg that it sends down.
 ghost use Rattle.std.specs.Prelude.{◌≡◌, ◌%◌, nat_lt};
 ghost use Rattle.survey.specs.declared.leg.Leg.{Leg};
-ghost use Rattle.view_laws.specs.Views.{with_bearing as at_bearing, swapped as swapped_at, turned, mirrored, declination_shows, declination_sends, mirrored_shows, mirrored_sends, reversed_shows, reversed_sends};
+ghost use Rattle.view_laws.specs.Views.{swapped as swapped_at, turned, mirrored, declination_shows, declination_sends, mirrored_shows, mirrored_sends, reversed_shows, reversed_sends};
 ghost use Rattle.view_laws.specs.Laws.{ViewLaws};
 ghost use Rattle.view_laws.proofs.Three.{three_laws};
 
@@ -55,19 +55,21 @@ impl View for Declination {
 
     ghost laws = { λ v. three_laws.declination v.turn };
 
-    fn show(&self, leg: Leg) -> Leg
-        ensures { result ≡ declination_shows self.now.turn leg }
-    {
-        with_bearing(leg, turn_by(leg.bearing, self.turn))
+    fn show(&self, leg: Leg) -> Leg {
+        Leg {
+            bearing: turn_by(leg.bearing, self.turn),
+            ..leg
+        }
     }
 
-    fn send(&self, leg: Leg) -> Leg
-        ensures { result ≡ declination_sends self.now.turn leg }
-    {
+    fn send(&self, leg: Leg) -> Leg {
         if is_over(leg.bearing) {
             return leg;
         }
-        with_bearing(leg, turn_by(leg.bearing, CIRCLE - self.turn % CIRCLE))
+        Leg {
+            bearing: turn_by(leg.bearing, CIRCLE - self.turn % CIRCLE),
+            ..leg
+        }
     }
 }
 
@@ -82,15 +84,14 @@ impl View for Mirrored {
 
     ghost laws = { λ v. three_laws.mirror };
 
-    fn show(&self, leg: Leg) -> Leg
-        ensures { result ≡ mirrored_shows leg }
-    {
-        with_bearing(leg, mirror(leg.bearing))
+    fn show(&self, leg: Leg) -> Leg {
+        Leg {
+            bearing: mirror(leg.bearing),
+            ..leg
+        }
     }
 
-    fn send(&self, leg: Leg) -> Leg
-        ensures { result ≡ mirrored_sends leg }
-    {
+    fn send(&self, leg: Leg) -> Leg {
         if is_over(leg.bearing) {
             return leg;
         }
@@ -109,15 +110,11 @@ impl View for Reversed {
 
     ghost laws = { λ v. three_laws.reversal };
 
-    fn show(&self, leg: Leg) -> Leg
-        ensures { result ≡ reversed_shows leg }
-    {
+    fn show(&self, leg: Leg) -> Leg {
         swapped(leg, turn_by(leg.bearing, HALF_CIRCLE))
     }
 
-    fn send(&self, leg: Leg) -> Leg
-        ensures { result ≡ reversed_sends leg }
-    {
+    fn send(&self, leg: Leg) -> Leg {
         if is_over(leg.bearing) {
             return swapped(leg, leg.bearing);
         }
@@ -144,13 +141,6 @@ fn mirror(bearing: u32) -> u32
     ensures { result ≡ mirrored bearing }
 {
     (CIRCLE - bearing % CIRCLE) % CIRCLE
-}
-
-// The leg at another bearing.
-fn with_bearing(leg: Leg, bearing: u32) -> Leg
-    ensures { result ≡ at_bearing leg bearing }
-{
-    Leg { bearing, ..leg }
 }
 
 // The leg with from and to swapped, at another bearing.
