@@ -5,6 +5,7 @@ ghost use Rattle.embedding.specs.Plans.{request_answer, embedding_answer, plan_a
 ghost use Rattle.plan.specs.States.{plan_state, planned_state};
 
 use crate::plans::Plan;
+use embedding::cave::Cave;
 use plan_check::{check_embedding, check_request};
 use refusal::Refusal;
 use survey::Survey;
@@ -48,7 +49,10 @@ fn plan_legs<S: Survey>(
 {
     let mut table = [BLANK; 256];
     read_legs(survey, count, &mut table);
-    match check_embedding(&table[0..count]) {
+    let cave = Cave {
+        legs: &table[0..count],
+    };
+    match check_embedding(&cave) {
         Err(e) => Err(e),
         Ok(()) => {
             plan.legs = table;

@@ -6,9 +6,10 @@ ghost use Rattle.embedding.specs.Rotation.{faces as faces_of, side_end};
 ghost use Rattle.plan.specs.States.{plan_legs, plan_state, new_state, face_at, demand_at};
 
 use crate::plans::Plan;
-use faces::{demand_of, fill_faces};
+use embedding::cave::Cave;
+use faces::Faces;
 use refusal::Refusal;
-use rotation::{count_stations, fill_next};
+use rotation::{Rotation, count_stations};
 use survey::checks::query_leg;
 use survey::leg::Leg;
 
@@ -38,6 +39,15 @@ impl Plan {
         ensures { result.now ≡ plan_legs self.now }
     {
         &self.legs[0..self.count]
+    }
+
+    /// The legs, which a survey can hold.
+    pub fn cave(&self) -> Cave<'_>
+        ensures { result.legs.now ≡ plan_legs self.now }
+    {
+        Cave {
+            legs: self.as_slice(),
+        }
     }
 
     /// The number of legs.
@@ -79,7 +89,7 @@ impl Plan {
     pub fn stations(&self) -> usize
         ensures { result ≡ stations_of (plan_legs self.now) }
     {
-        count_stations(self.as_slice())
+        count_stations(&self.cave())
     }
 
     /// The number of faces, which Euler's formula gives, as a plan is planar.
@@ -96,12 +106,8 @@ impl Plan {
         if end >= 2 * self.count {
             return None;
         }
-        let legs = self.as_slice();
-        let mut nexts = [0; 512];
-        let mut faces = [0; 512];
-        fill_next(legs, &mut nexts);
-        fill_faces(legs, &nexts, &mut faces);
-        Some(faces[end])
+        let faces = Faces::new(Rotation::new(self.cave()));
+        Some(faces.face(end))
     }
 
     /// The demand of the face of an end; none where there is no such end.
@@ -111,6 +117,7 @@ impl Plan {
         if end >= 2 * self.count {
             return None;
         }
-        Some(demand_of(self.as_slice(), self.outer_end(), end))
+        let faces = Faces::new(Rotation::new(self.cave()));
+        Some(faces.demand_of(self.outer_end(), end))
     }
 }

@@ -10,6 +10,16 @@ use Rattle.plan.specs.States.{plan_state, state}
 use Rattle.plan.proofs.Accepting.{count_in, front, accepts}
 use Rattle.plan.proofs.planning.plan_legs.Goals as goal
 
+pub invariant_of-cave : goal.invariant_of-cave
+invariant_of-cave g c =
+    let legs = g.S.Survey.legs c.args.survey.now in
+    let n = c.args.count in
+    let f = front n c.read_legs.new.table legs c.read_legs.ensures in
+    let b = count_in n c.args.leg c.args.side c.requires.request in
+    let l = ap length f in
+    let hi = b.1 in
+    record { valid = ap valid_legs f ∙ g.S.Survey.valid c.args.survey.now; few = omega arith }
+
 pub check_embedding-requires : goal.check_embedding-requires
 check_embedding-requires g c =
     let legs = g.S.Survey.legs c.args.survey.now in
@@ -18,8 +28,7 @@ check_embedding-requires g c =
     let b = count_in n c.args.leg c.args.side c.requires.request in
     let l = ap length f in
     let lo = b.0 in
-    let hi = b.1 in
-    record { valid = ap valid_legs f ∙ g.S.Survey.valid c.args.survey.now; some = omega arith; few = omega arith }
+    omega arith
 
 pub invariant_of-plan : goal.invariant_of-plan
 invariant_of-plan g c =
