@@ -6,4 +6,4 @@ use Rattle.directions.proofs.Chosen.{none_incoming}
 use Rattle.directions.proofs.sources.Goals as goal
 
 pub returns : goal.returns
-returns c e l = c.without.ensures e l ∙ none_incoming c.args.cave.now.legs.now _ (holds_told false (λ e. not (outgoing e)) _ (omega arith) c.table-incoming.ensures (λ e v l p. search rules)) e
+returns c e l = c.without.ensures e l ∙ none_incoming c.args.cave.now.legs.now _ (holds_told false (λ e. not (outgoing e)) _ (omega arith) c.table-incoming.ensures.told (λ e v l p. search rules)) e

@@ -8,4 +8,4 @@ use Rattle.directions.proofs.without.Goals as goal
 pub returns : goal.returns
 returns c =
     let legs = c.args.cave.now.legs.now in
-    holds_told false (λ e. eqb (chosen_at legs c.args.chosen.now (station legs e)) 0) _ (omega arith) c.table.ensures (λ e v l p. search rules)
+    holds_told false (λ e. eqb (chosen_at legs c.args.chosen.now (station legs e)) 0) _ (omega arith) c.table.ensures.told (λ e v l p. search rules)

@@ -7,7 +7,7 @@ use Rattle.plan_check.proofs.check_planar.Goals as goal
 
 pub overflow_add-count_stations : goal.overflow_add-count_stations
 overflow_add-count_stations c =
-    let legs = c.args.legs.now in
+    let legs = c.args.faces.now.rotation.cave.legs.now in
     let a = count_bound (first_at_station legs) (ends legs) in
     let b = count_bound (λ (e : ℕ). eqb (face legs e) e) (ends legs) in
     search rules

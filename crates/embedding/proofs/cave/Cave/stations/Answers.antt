@@ -5,4 +5,4 @@ use Rattle.embedding.proofs.Telling.{holds_told}
 use Rattle.embedding.proofs.cave.Cave.stations.Goals as goal
 
 pub returns : goal.returns
-returns c = holds_told 0 (station c.args.self.now.legs.now) _ (omega arith) c.table.ensures (λ e v l p. search rules)
+returns c = holds_told 0 (station c.args.self.now.legs.now) _ (omega arith) c.table.ensures.told (λ e v l p. search rules)

@@ -34,7 +34,7 @@ tallied_le keys chosen n v = count_bound (λ k. get_or chosen k false && eqb (ge
 pub tally-requires : goal.tally-requires
 tally-requires c =
     let cave = c.args.self.now.rotation.cave in
-    let angles = holds_told 0 (angle_face cave.legs.now) (ends cave.legs.now) (omega arith) c.table-angles.ensures (λ e v l p. search rules) in
+    let angles = holds_told 0 (angle_face cave.legs.now) (ends cave.legs.now) (omega arith) c.table-angles.ensures.told (λ e v l p. search rules) in
     record {
       keyed = omega arith;
       chosen = omega arith;
@@ -53,9 +53,9 @@ table-requires c =
 pub returns : goal.returns
 returns c =
     let legs = c.args.self.now.rotation.cave.legs.now in
-    let angles = holds_told 0 (angle_face legs) (ends legs) (omega arith) c.table-angles.ensures (λ e v l p. search rules) in
-    let switches = holds_told false (source_switch legs) (ends legs) (omega arith) c.table-switches.ensures (λ e v l p. search rules) in
+    let angles = holds_told 0 (angle_face legs) (ends legs) (omega arith) c.table-angles.ensures.told (λ e v l p. search rules) in
+    let switches = holds_told false (source_switch legs) (ends legs) (omega arith) c.table-switches.ensures.told (λ e v l p. search rules) in
     let counted : Holds 0 (source_switches legs) c.tally.new.tallies (ends legs) = λ e l. c.tally.ensures e (omega arith) ∙ ap (λ n. tallied c.table-angles.result c.table-switches.result n e) c.ends-n.ensures ∙ switches_tallied legs _ _ angles switches e in
-    holds_told (pos 0) (demand legs c.args.outer) _ (omega arith) c.table.ensures (λ e v l p.
+    holds_told (pos 0) (demand legs c.args.outer) _ (omega arith) c.table.ensures.told (λ e v l p.
     let said : v ≡ of_switches (eqb e c.args.outer) (get_or c.tally.new.tallies e 0) = search rules in
     said ∙ ap (of_switches (eqb e c.args.outer)) (counted e (omega arith)))

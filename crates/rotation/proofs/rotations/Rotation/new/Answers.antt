@@ -11,5 +11,5 @@ link-befores-requires-clause-blank c e l = get_or-replicate 10000 e None None l
 pub invariant_of-result : goal.invariant_of-result
 invariant_of-result c = record {
   full = search rules;
-  follows = holds_told 0 (next c.args.cave.legs.now) _ (omega arith) c.table-nexts.ensures (λ e v l p. search rules);
+  follows = holds_told 0 (next c.args.cave.legs.now) _ (omega arith) c.table-nexts.ensures.told (λ e v l p. search rules);
 }
