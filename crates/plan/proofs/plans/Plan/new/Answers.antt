@@ -14,7 +14,8 @@ first_accepted = refl
 
 pub invariant_of-result : goal.invariant_of-result
 invariant_of-result c =
-    let e : c.push.new.self.items ≡ first_leg ∷ [] = c.push.ensures.items ∙ ap (λ (xs : List Leg). xs ++ (first_leg ∷ [])) c.new-legs.ensures in
+    let l : c.plain.result ≡ first_leg = c.plain.ensures in
+    let e : c.push.new.self.items ≡ first_leg ∷ [] = c.push.ensures.items ∙ (λ t. c.new-legs.ensures t ++ (l t ∷ [])) in
     record {
       valid = ap valid_legs e;
       accepted = ap (λ (xs : List Leg). is_accepted (plan_answer xs 0 0)) e ∙ first_accepted;
