@@ -3,11 +3,12 @@
 
 use diagram::run;
 use draw::drawings::Drawing;
+use embedding::outer::OuterSide;
 use plan::plans::Plan;
 use price::{Plain, PlainTariff};
 use refusal::Refusal;
 use report::{refusal_line, summary};
-use search::{Label, NO_PRICE};
+use search::Label;
 use slice_vec::SliceVec;
 use std::io;
 use std::io::{Read, Write};
@@ -29,53 +30,46 @@ fn failure() -> io::Error {
     io::Error::from(io::ErrorKind::InvalidData)
 }
 
-// Says in one line on standard error what is wrong.
-fn complain(rt: &HostRuntime, cause: &Refusal) -> io::Result<()> {
-    eprintln!(rt; "{cause}")
+// Prints what an account writes into a buffer.
+fn print<F: FnOnce(&mut [u8]) -> Result<usize, Refusal>>(
+    rt: &HostRuntime,
+    account: F,
+) -> io::Result<()>
+    requires { F.IsAlwaysCallable account }
+{
+    let mut out = [0u8; 128];
+    let written = account(&mut out);
+    match written.ok().and_then(|n| out.get(..n)) {
+        Some(bytes) => rt.stdout().write_all(bytes),
+        None => Err(failure()),
+    }
 }
 
 // Prints the refusal line.
 fn print_refusal(rt: &HostRuntime, cause: &Refusal, line: usize) -> io::Result<()> {
-    let mut out = [0u8; 128];
-    match refusal_line(cause.number() as usize, line, &mut out) {
-        Ok(n) => rt.stdout().write_all(&out[0..n]),
-        Err(_) => Err(failure()),
-    }
+    let number = cause.number() as usize;
+    print(rt, |out| refusal_line(number, line, out))
 }
 
 // A fault in the text: the refusal, and where it is.
 fn refuse_text(rt: &HostRuntime, fault: &Fault) -> io::Result<ExitCode> {
     print_refusal(rt, &fault.cause, fault.line)?;
-    let line = fault.line;
-    let place = fault.place;
-    eprint!(rt; "line {line}, byte {place}: ")?;
-    complain(rt, &fault.cause)?;
+    eprintln!(rt; "line {}, byte {}: {}", fault.line, fault.place, fault.cause)?;
     Ok(ExitCode::FAILURE)
 }
 
 // A cave that cannot be planned or drawn.
 fn refuse_cave(rt: &HostRuntime, cause: &Refusal) -> io::Result<ExitCode> {
     print_refusal(rt, cause, 0)?;
-    complain(rt, cause)?;
+    eprintln!(rt; "{cause}")?;
     Ok(ExitCode::FAILURE)
-}
-
-fn print_summary(rt: &HostRuntime, drawing: &Drawing) -> io::Result<()> {
-    let mut out = [0u8; 128];
-    match summary(drawing, &mut out) {
-        Ok(n) => rt.stdout().write_all(&out[0..n]),
-        Err(_) => Err(failure()),
-    }
 }
 
 // Plans left of leg 0, and draws with plain prices: the refusal of either, if any.
 fn draw_cave(table: &mut SurveyTable, drawing: &mut Drawing) -> Result<(), Refusal> {
-    let mut steps = [Step::new(Call::Plan { leg: 0, side: 0 })];
-    let price = Plain { value: 0 };
-    let mut places = [Label {
-        price,
-        end: NO_PRICE,
-    }; 260];
+    let outer = OuterSide { leg: 0, side: 0 };
+    let mut steps = [Step::new(Call::Plan(outer))];
+    let mut places: [Label<Plain>; 260] = [Label::none(); 260];
     let mut labels = SliceVec::new(&mut places);
     let drawn = run(
         table,
@@ -86,9 +80,8 @@ fn draw_cave(table: &mut SurveyTable, drawing: &mut Drawing) -> Result<(), Refus
         drawing,
     );
     match (steps[0].answer, drawn) {
-        (Err(cause), _) => Err(cause),
-        (Ok(_), Err(cause)) => Err(cause),
-        (Ok(_), Ok(_)) => Ok(()),
+        (Some(Err(cause)), _) | (_, Err(cause)) => Err(cause),
+        _ => Ok(()),
     }
 }
 
@@ -101,7 +94,7 @@ fn main(rt: HostRuntime) -> io::Result<ExitCode> {
         Ok(()) => match draw_cave(&mut table, &mut drawing) {
             Err(cause) => refuse_cave(&rt, &cause),
             Ok(()) => {
-                print_summary(&rt, &drawing)?;
+                print(&rt, |out| summary(&drawing, out))?;
                 Ok(ExitCode::SUCCESS)
             }
         },

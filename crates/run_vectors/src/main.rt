@@ -3,97 +3,80 @@
 // which says what its numbers mean.
 #![tactic(auto)]
 
-ghost use Rattle.std.specs.Prelude.{◌≡◌, min, slice_index};
-ghost use Rattle.refusal.specs.Answers.{told_by};
+ghost use Rattle.std.specs.Prelude.{◌≡◌, min};
 ghost use Rattle.survey.specs.Model.{leg_told};
-ghost use Rattle.transcript.specs.Steps.{reply_told};
+ghost use Rattle.transcript.specs.Steps.{answer_told};
 
 use refusal::Refusal;
 use std::alloc::{AllocError, Global};
 use std::io;
 use std::io::Read;
+use std::str::SplitWhitespace;
 use survey::Survey;
 use survey::leg::{Attributes, Change, Leg};
 use survey_runs;
 use transcript::step::{Call, Reply, Step};
 
-/// The most bytes of input that are read.
-const MOST_BYTES: u64 = 1_000_000;
-
 /// What the supplied entries hold before the journal writes them.
 const UNUSED: Change = Change::Strike { start: 7, end: 3 };
 
-/// The whole numbers of the input, read one after another.
-#[derive(Drop)]
-struct Numbers {
-    all: Vec<u32>,
-    at: usize,
+// The next number of the input, 0 where there is none.
+fn next(words: &mut SplitWhitespace) -> u32 {
+    words
+        .next()
+        .and_then(|word| word.parse().ok())
+        .unwrap_or(0)
 }
 
-impl Numbers {
-    // The next number, or 0 past the last.
-    fn next(&mut self) -> u32
-        ensures number { result ≡ slice_index self.old.all.items self.old.at }
-        ensures all { self.new.all ≡ self.old.all }
-    {
-        let i = self.at;
-        if i >= self.all.len() {
-            return 0;
-        }
-        self.at = i + 1;
-        self.all[i]
+fn next_six(words: &mut SplitWhitespace) -> [u32; 6] {
+    let mut six = [0; 6];
+    for n in six.iter_mut() {
+        *n = next(words);
     }
+    six
+}
 
-    fn next_six(&mut self) -> [u32; 6] {
-        let mut six = [0; 6];
-        for n in six.iter_mut() {
-            *n = self.next();
-        }
-        six
+fn next_leg(words: &mut SplitWhitespace) -> Leg {
+    let [from, to, bearing, weight, wet, limit] = next_six(words);
+    Leg {
+        from,
+        to,
+        bearing,
+        weight,
+        wet,
+        limit,
     }
+}
 
-    fn next_leg(&mut self) -> Leg {
-        let [from, to, bearing, weight, wet, limit] = self.next_six();
-        Leg {
-            from,
-            to,
-            bearing,
-            weight,
-            wet,
-            limit,
-        }
+fn next_call(words: &mut SplitWhitespace) -> Call {
+    let kind = next(words);
+    if kind == 0 {
+        return Call::Change(Change::Enter(next_leg(words)));
     }
-
-    fn next_call(&mut self) -> Call {
-        let kind = self.next();
-        if kind == 0 {
-            return Call::Change(Change::Enter(self.next_leg()));
+    let [a, b, weight, wet, limit, _] = next_six(words);
+    let start = a as usize;
+    let end = b as usize;
+    match kind {
+        1 => Call::Change(Change::Strike { start, end }),
+        2 => {
+            let attributes = Attributes { weight, wet, limit };
+            Call::Change(Change::Amend {
+                start,
+                end,
+                attributes,
+            })
         }
-        let [a, b, weight, wet, limit, _] = self.next_six();
-        let start = a as usize;
-        let end = b as usize;
-        match kind {
-            1 => Call::Change(Change::Strike { start, end }),
-            2 => {
-                let attributes = Attributes { weight, wet, limit };
-                Call::Change(Change::Amend {
-                    start,
-                    end,
-                    attributes,
-                })
-            }
-            3 => Call::Count,
-            4 => Call::LegAt(start),
-            5 => Call::MayEnter,
-            _ => Call::MayAmend,
-        }
+        3 => Call::Count,
+        4 => Call::LegAt(start),
+        5 => Call::MayEnter,
+        _ => Call::MayAmend,
     }
+}
 
-    fn next_expected(&mut self) -> Told {
-        Told {
-            number: self.next(),
-            values: self.next_six(),
-        }
+fn next_expected(words: &mut SplitWhitespace) -> Told {
+    Told {
+        number: next(words),
+        values: next_six(words),
     }
 }
 
@@ -118,44 +101,18 @@ fn numbers_of(l: Leg) -> [u32; 6]
 }
 
 // An answer in the form of the input; what was not sent tells what no answer tells.
-fn tell(answer: Result<Reply, Refusal>) -> Told
-    ensures { result.number ≡ (told_by reply_told answer).number }
+fn tell(answer: Option<Result<Reply, Refusal>>) -> Told
+    ensures { result.number ≡ (answer_told answer).number }
 {
     let (number, values) = match answer {
-        Ok(Reply::Unsent) => (0, [u32::MAX; 6]),
-        Ok(Reply::Changed | Reply::Planned) => (0, [0; 6]),
-        Ok(Reply::Counted(n)) => (0, [small(n), 0, 0, 0, 0, 0]),
-        Ok(Reply::Found(leg)) => (0, numbers_of(leg)),
-        Ok(Reply::Allowed(may)) => (0, [u32::from(may), 0, 0, 0, 0, 0]),
-        Err(e) => (e.number(), [small(e.value()), 0, 0, 0, 0, 0]),
+        None => (0, [u32::MAX; 6]),
+        Some(Ok(Reply::Changed | Reply::Planned)) => (0, [0; 6]),
+        Some(Ok(Reply::Counted(n))) => (0, [small(n), 0, 0, 0, 0, 0]),
+        Some(Ok(Reply::Found(leg))) => (0, numbers_of(leg)),
+        Some(Ok(Reply::Allowed(may))) => (0, [u32::from(may), 0, 0, 0, 0, 0]),
+        Some(Err(e)) => (e.number(), [small(e.value()), 0, 0, 0, 0, 0]),
     };
     Told { number, values }
-}
-
-// The numbers in a text: runs of digits, whatever parts them.
-fn parse_numbers(heap: Global, text: &[u8]) -> Result<Vec<u32>, AllocError> {
-    let mut all = Vec::new(heap);
-    let mut n = 0u32;
-    let mut inside = false;
-    for b in text {
-        if b.is_ascii_digit() {
-            n = n.wrapping_mul(10).wrapping_add(u32::from(*b & 15));
-            inside = true;
-        } else if inside {
-            all.push(n)?;
-            n = 0;
-            inside = false;
-        }
-    }
-    Ok(all)
-}
-
-fn read_input(rt: &HostRuntime) -> anyhow::Result<Numbers> {
-    let mut text = Vec::new(rt.alloc());
-    let mut input = rt.stdin().take(MOST_BYTES);
-    input.read_to_end(&mut text)?;
-    let all = parse_numbers(rt.alloc(), text.as_slice())?;
-    Ok(Numbers { all, at: 0 })
 }
 
 // Prints how many answers are as expected, and which are not.
@@ -194,32 +151,38 @@ fn compare_legs<S: Survey>(
     println!(rt; "{name}: {agree} of {count} legs below agree")
 }
 
-fn read_legs(heap: Global, input: &mut Numbers, count: u32) -> Result<Vec<Leg>, AllocError> {
+fn read_legs(
+    heap: Global,
+    words: &mut SplitWhitespace,
+    count: u32,
+) -> Result<Vec<Leg>, AllocError> {
     let mut legs = Vec::new(heap);
     for _ in 0..count {
-        legs.push(input.next_leg())?;
+        legs.push(next_leg(words))?;
     }
     Ok(legs)
 }
 
 fn main(rt: HostRuntime) -> anyhow::Result<()> {
     let heap = rt.alloc();
-    let mut input = read_input(&rt)?;
-    let turn = input.next();
-    let supplied = input.next() as usize;
-    let calls = input.next();
-    let journal_count = input.next();
-    let table_count = input.next();
+    let mut text = String::new(heap);
+    rt.stdin().read_to_string(&mut text)?;
+    let mut words = text.as_str().split_whitespace();
+    let turn = next(&mut words);
+    let supplied = next(&mut words) as usize;
+    let calls = next(&mut words);
+    let journal_count = next(&mut words);
+    let table_count = next(&mut words);
     let mut steps = Vec::new(heap);
     let mut over_journal = Vec::new(heap);
     let mut over_table = Vec::new(heap);
     for _ in 0..calls {
-        steps.push(Step::new(input.next_call()))?;
-        over_journal.push(input.next_expected())?;
-        over_table.push(input.next_expected())?;
+        steps.push(Step::new(next_call(&mut words)))?;
+        over_journal.push(next_expected(&mut words))?;
+        over_table.push(next_expected(&mut words))?;
     }
-    let journal_legs = read_legs(heap, &mut input, journal_count)?;
-    let table_legs = read_legs(heap, &mut input, table_count)?;
+    let journal_legs = read_legs(heap, &mut words, journal_count)?;
+    let table_legs = read_legs(heap, &mut words, table_count)?;
     println!(rt; "{calls} calls")?;
     let mut entries = vec![in heap; UNUSED; supplied]?;
     let journal = survey_runs::run_journal(entries.as_mut_slice(), turn, steps.as_mut_slice());
