@@ -1,13 +1,12 @@
 -- What keeps a list of legs valid: a leg entered, a stretch struck, a stretch amended.
-use Rattle.std.proofs.Common.{◌≡◌, ℕ, zero, suc, ◌-◌, ◌<◌, ◌≤◌, Bool, true, false, not, ◌&&◌, ◌||◌, eqb, ltb, List, [], ◌∷◌, ◌++◌, map, length, get_or, take, drop, sym, refl, ap, ◌∙◌, arith}
+use Rattle.std.proofs.Common.{◌≡◌, ℕ, zero, suc, ◌-◌, ◌<◌, ◌≤◌, Bool, true, false, not, ◌&&◌, List, [], ◌∷◌, ◌++◌, map, length, get_or, take, drop, sym, refl, ap, ◌∙◌, arith}
 use Rattle.std.specs.Prelude.{None}
-use Rattle.std.proofs.lemmas.Bool.{and_parts, and_from}
 use Rattle.std.proofs.lemmas.Bool.Decides.{nat_tests as tests}
 use Rattle.std.proofs.lemmas.List.Edits.{split_between}
 use Rattle.survey.specs.declared.leg.Leg.{Leg}
 use Rattle.survey.specs.declared.leg.Attributes.{Attributes}
-use Rattle.survey.specs.Model.{is_accepted, attributes_answer, no_station, valid_leg, apart, valid_legs, clash, first_clash, enter_answer, entered, strike_answer, struck, amend_answer, with_attributes, amended}
-use Rattle.survey.proofs.Accepted.{in_range, pass_over, entering, striking, amending}
+use Rattle.survey.specs.Model.{is_accepted, attributes_answer, valid_leg, apart, valid_legs, clash, first_clash, enter_answer, entered, strike_answer, struck, amend_answer, with_attributes, amended}
+use Rattle.survey.proofs.Accepted.{in_range, entering, striking, amending}
 use Rattle.refusal.specs.Answers.{accepted}
 
 -- what a valid list says of its first leg and of the rest
@@ -18,20 +17,16 @@ pub record First (a : Leg) (rest : List Leg) : Type 0 where
 
 pub first : (a : Leg) (rest : List Leg) → valid_legs (a ∷ rest) ≡ true → First a rest
 first a rest h =
-    let s = and_parts (valid_leg a && apart a rest) (valid_legs rest) h in
-    let t = and_parts (valid_leg a) (apart a rest) s.0 in
-    record { valid = t.0; apart_from = t.1; others = s.1 }
+    record { valid = grind (arith, tests); apart_from = grind (arith, tests); others = grind (arith, tests) }
 
 pub join : (a : Leg) (rest : List Leg) → First a rest → valid_legs (a ∷ rest) ≡ true
-join a rest f = and_from (valid_leg a && apart a rest) (valid_legs rest) (and_from (valid_leg a) (apart a rest) f.valid f.apart_from) f.others
+join a rest f = grind (arith, tests)
 
 -- a leg entered
 
 apart_entered : (a : Leg) (xs : List Leg) (l : Leg) → apart a xs ≡ true → clash a l ≡ false → apart a (entered xs l) ≡ true
 apart_entered a [] l h e = rw e refl
-apart_entered a (x ∷ xs) l h e =
-    let s = and_parts (not (clash a x)) (apart a xs) h in
-    and_from (not (clash a x)) (apart a (entered xs l)) s.0 (apart_entered a xs l s.1 e)
+apart_entered a (x ∷ xs) l h e = let r = apart_entered a xs l in grind (arith, tests)
 
 -- none of the list clashes with l: not the first leg, and none of the rest
 first_free : (x : Leg) (xs : List Leg) (l : Leg) → first_clash (x ∷ xs) l ≡ None → (clash x l ≡ false) × (first_clash xs l ≡ None)
@@ -48,10 +43,8 @@ valid_entered (x ∷ xs) l h v e =
 
 apart_without : (a : Leg) (xs ys zs : List Leg) → apart a (xs ++ (ys ++ zs)) ≡ true → apart a (xs ++ zs) ≡ true
 apart_without a [] [] zs h = h
-apart_without a [] (y ∷ ys) zs h = apart_without a [] ys zs (and_parts (not (clash a y)) (apart a (ys ++ zs)) h).1
-apart_without a (x ∷ xs) ys zs h =
-    let s = and_parts (not (clash a x)) (apart a (xs ++ (ys ++ zs))) h in
-    and_from (not (clash a x)) (apart a (xs ++ zs)) s.0 (apart_without a xs ys zs s.1)
+apart_without a [] (y ∷ ys) zs h = let r = apart_without a [] ys zs in grind (arith, tests)
+apart_without a (x ∷ xs) ys zs h = let r = apart_without a xs ys zs in grind (arith, tests)
 
 valid_without : (xs ys zs : List Leg) → valid_legs (xs ++ (ys ++ zs)) ≡ true → valid_legs (xs ++ zs) ≡ true
 valid_without [] [] zs h = h
@@ -67,9 +60,7 @@ valid_struck xs start end h v = valid_without (take start xs) (take (end - start
 
 module _ (x : Attributes) (ok : is_accepted (attributes_answer x) ≡ true) where
   valid_with : (l : Leg) → valid_leg l ≡ true → valid_leg (with_attributes x l) ≡ true
-  valid_with l h =
-      let r = in_range l h in
-      pass_over (no_station l.from || no_station l.to) _ _ r.stations (pass_over (eqb l.from l.to) _ _ r.differ (pass_over (ltb 3599 l.bearing) _ _ r.bearing ok))
+  valid_with l h = let r = in_range l h in grind (arith, tests)
 
   apart_amended : (a : Leg) (ps qs rs : List Leg) → apart a (ps ++ (map (with_attributes x) qs ++ rs)) ≡ apart a (ps ++ (qs ++ rs))
   apart_amended a [] [] rs = refl

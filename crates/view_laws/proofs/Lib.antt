@@ -2,4 +2,3 @@ pub mod Bearings
 pub mod Swapped
 pub mod Three
 pub mod Shown
-pub mod Queried

@@ -1,29 +1,28 @@
 -- What a view keeps of a valid list: proved once, for every view.
-use Rattle.std.proofs.Common.{◌≡◌, ℕ, ◌-◌, Bool, true, false, cond, List, [], ◌∷◌, ◌++◌, map, length, take, drop, sym, refl, ap, ◌∙◌, subst}
+use Rattle.std.proofs.Common.{◌≡◌, ℕ, ◌-◌, Bool, true, List, [], ◌∷◌, ◌++◌, map, length, take, drop, sym, refl, ap, ◌∙◌, subst, arith}
 use Rattle.std.specs.List.{position_or_len}
+use Rattle.std.proofs.lemmas.Bool.Decides.{nat_tests as tests}
 use Rattle.std.proofs.lemmas.List.{length-map, take-map, drop-map, map-append}
 use Rattle.refusal.specs.Answers.{Answer}
 use Rattle.survey.specs.declared.leg.Leg.{Leg}
 use Rattle.survey.specs.declared.leg.Attributes.{Attributes}
 use Rattle.survey.specs.declared.leg.Change.{Change}
-use Rattle.survey.specs.Model.{is_accepted, or_else, leg_answer, valid_leg, apart, valid_legs, clash, first_clash, clash_answer, allowed_answer, enter_answer, entered, enter_legs, strike_answer, struck, strike_legs, amend_answer, with_attributes, amended, amend_legs, if_accepted}
-use Rattle.survey.specs.Changes.{Leading, changes}
+use Rattle.survey.specs.Model.{is_accepted, or_else, leg_answer, valid_leg, apart, valid_legs, clash, clash_answer, allowed_answer, enter_answer, entered, enter_legs, strike_answer, struck, strike_legs, amend_answer, with_attributes, amended, amend_legs, if_accepted}
+use Rattle.survey.specs.Changes.{Leading}
 use Rattle.survey.proofs.Valid.{first, join}
 use Rattle.view_laws.specs.Laws.{ViewLaws}
 use Rattle.view_laws.specs.Sent.{sent}
 
 -- a second cause matters only where the first is not met
 or_same : (a x y : Answer) → (is_accepted a ≡ true → x ≡ y) → or_else a x ≡ or_else a y
-or_same a x y f = elim (is_accepted a) as (λ b. (b ≡ true → x ≡ y) → cond b x a ≡ cond b y a) [ true ↦ λ g. g refl | false ↦ λ g. refl ] f
+or_same a x y f = grind (arith, tests)
 
 or_first : (a x : Answer) → is_accepted (or_else a x) ≡ true → is_accepted a ≡ true
-or_first a x h = elim (is_accepted a) as (λ b. is_accepted a ≡ b → is_accepted (cond b x a) ≡ true → b ≡ true) [ true ↦ λ p q. refl | false ↦ λ p q. sym p ∙ q ] refl h
+or_first a x h = grind (arith, tests)
 
 -- a list shown after a call
 if_map : (f : Leg → Leg) (a b : Answer) (next legs next' : List Leg) → a ≡ b → (is_accepted b ≡ true → map f next ≡ next') → map f (if_accepted a next legs) ≡ if_accepted b next' (map f legs)
-if_map f a b next legs next' e h =
-    ap (λ (v : Answer). map f (if_accepted v next legs)) e
-    ∙ elim (is_accepted b) as (λ v. (v ≡ true → map f next ≡ next') → map f (cond v next legs) ≡ cond v next' (map f legs)) [ true ↦ λ k. k refl | false ↦ λ k. refl ] h
+if_map f a b next legs next' e h = grind (arith, tests)
 
 map_past : (f g : Leg → Leg) → ((l : Leg) → f (g l) ≡ g (f l)) → (xs : List Leg) → map f (map g xs) ≡ map g (map f xs)
 map_past f g e [] = refl
@@ -101,11 +100,7 @@ module _ {f d : Leg → Leg} (k : ViewLaws f d) where
       if_map f (amend_answer (length xs) may start end x) (amend_answer (length (map f xs)) may start end x) (amended xs start end x) xs (amended (map f xs) start end x) (amend_answer_shown xs may start end x)
       (λ e. amended_shown xs start end x)
 
--- the changes that are sent down
-
-pub sent_changes : (d : Leg → Leg) (a : Answer) (c : Change) → map (sent d) (changes a c) ≡ changes a (sent d c)
-sent_changes d a c = elim (is_accepted a) as (λ v. map (sent d) (cond v (c ∷ []) []) ≡ cond v (sent d c ∷ []) []) [ true ↦ refl | false ↦ refl ]
-
+-- changes that led below, one after the other
 pub onward_below : {V S : Type 0} (sends : V → Leg → Leg) {leads : S → List Change → S → Type 0} (w : Leading leads) (v v' : V) (s t u : S) (cs ds : List Change) → v' ≡ v → leads s (map (sent (sends v)) cs) t → leads t (map (sent (sends v')) ds) u → leads s (map (sent (sends v)) (cs ++ ds)) u
 onward_below sends {leads} w v v' s t u cs ds e p q =
     let q' : leads t (map (sent (sends v)) ds) u = subst (λ x. leads t (map (sent (sends x)) ds) u) e q in

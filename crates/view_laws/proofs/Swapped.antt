@@ -4,19 +4,13 @@ use Rattle.std.proofs.lemmas.Bool.Decides.{nat_tests as tests}
 use Rattle.refusal.specs.Answers.{Answer, refuses}
 use Rattle.survey.specs.declared.leg.Leg.{Leg}
 use Rattle.survey.specs.Ends.{far_bearing}
-use Rattle.survey.specs.Model.{is_accepted, attributes_answer, attributes_of, no_station, leg_answer, valid_leg, coincide, clash}
+use Rattle.survey.specs.Model.{is_accepted, attributes_answer, attributes_of, leg_answer, valid_leg, coincide, clash}
 use Rattle.view_laws.specs.Views.{with_bearing, swapped, opposite, reversed_shows, reversed_sends}
 use Rattle.view_laws.specs.Laws.{ViewLaws}
 use Rattle.view_laws.proofs.Bearings.{not_over, bearing_small}
 
-or_comm : (a b : Bool) → (a || b) ≡ (b || a)
-or_comm true true = refl
-or_comm true false = refl
-or_comm false true = refl
-or_comm false false = refl
-
 or_turn : (a b c d : Bool) → ((d || c) || (b || a)) ≡ ((a || b) || (c || d))
-or_turn a b c d = or_comm (d || c) (b || a) ∙ ap (λ (v : Bool). v || (d || c)) (or_comm b a) ∙ ap (λ (v : Bool). (a || b) || v) (or_comm d c)
+or_turn a b c d = grind arith
 
 same_station : (s t : ℕ) (rest : Answer) → cond (eqb t s) (refuses 2 t) rest ≡ cond (eqb s t) (refuses 2 s) rest
 same_station s t rest = grind (arith, tests)
@@ -26,11 +20,7 @@ abbrev from_bearing : Leg → ℕ → Answer
 from_bearing l b = cond (ltb 3599 b) (refuses 3 b) (attributes_answer (attributes_of l))
 
 same_answer : (l : Leg) (b : ℕ) → from_bearing l b ≡ from_bearing l l.bearing → leg_answer (swapped l b) ≡ leg_answer l
-same_answer l b e =
-    let stations = no_station l.from || no_station l.to in
-    ap (λ (v : Bool). cond v (refuses 1 0) (cond (eqb l.to l.from) (refuses 2 l.to) (from_bearing l b))) (or_comm (no_station l.to) (no_station l.from))
-    ∙ ap (cond stations (refuses 1 0)) (same_station l.from l.to (from_bearing l b))
-    ∙ ap (λ (v : Answer). cond stations (refuses 1 0) (cond (eqb l.from l.to) (refuses 2 l.from) v)) e
+same_answer l b e = let s = same_station l.from l.to (from_bearing l b) in grind (arith, tests)
 
 opposite_in : (b : ℕ) → ltb 3599 (opposite b) ≡ false
 opposite_in b = not_over _ (omega arith)
