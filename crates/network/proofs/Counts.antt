@@ -1,10 +1,10 @@
 -- Marked numbers and their ranks, as tables and as counts.
-use Rattle.std.proofs.Common.{◌≡◌, ℕ, ◌+◌, ◌<◌, ◌≤◌, Bool, false, List, get_or, ap, ◌∙◌, arith}
+use Rattle.std.proofs.Common.{◌≡◌, ℕ, ◌<◌, ◌≤◌, Bool, false, List, get_or, ◌∙◌, arith}
 use Rattle.survey.specs.Counting.{count}
 use Rattle.embedding.specs.Tables.{Holds}
 use Rattle.embedding.proofs.Reached.{count_bound}
 use Rattle.cycles.proofs.Tables.{count_same}
-use Rattle.network.specs.Tables.{rank, numbered}
+use Rattle.network.specs.Tables.{rank}
 
 -- ranks by marks are counts of what is marked
 rank_is : (p : ℕ → Bool) (marks : List Bool) (n : ℕ) → Holds false p marks n → (k : ℕ) → k ≤ n → rank marks k ≡ count p k
@@ -14,11 +14,8 @@ module _ (p : ℕ → Bool) (marks : List Bool) (n : ℕ) (marked : Holds false 
   pub rank_all : rank marks n ≡ count p n
   rank_all = rank_is p marks n marked n (omega arith)
 
-  pub numbered_is : (key : ℕ → ℕ) (keys ranks : List ℕ) (start e : ℕ) → Holds 0 key keys n → Holds 0 (rank marks) ranks n → e < n → key e < n → numbered start keys ranks e ≡ start + count p (key e)
-  numbered_is key keys ranks start e h r l b =
-      let k = h e l in
-      let a : get_or keys e 0 < n = omega arith in
-      ap (λ (x : ℕ). start + x) (r (get_or keys e 0) a ∙ ap (rank marks) k ∙ rank_is p marks n marked (key e) (omega arith))
+  pub ranked : (ranks : List ℕ) (k : ℕ) → Holds 0 (rank marks) ranks n → k < n → get_or ranks k 0 ≡ count p k
+  ranked ranks k r l = r k l ∙ rank_is p marks n marked k (omega arith)
 
   -- a rank is at most the number of places
   pub rank_le : (ranks : List ℕ) (k : ℕ) → Holds 0 (rank marks) ranks n → k < n → get_or ranks k 0 ≤ n

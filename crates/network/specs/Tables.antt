@@ -1,5 +1,5 @@
--- Tables that number the marked among the numbers below a bound, and tables read one after the other.
-use Rattle.std.specs.Prelude.{ℕ, ◌+◌, ◌-◌, Bool, false, List, nat_eq, slice_index, slice_index_or}
+-- Numbers of the marked among the numbers below a bound, and the lowest ends of stations.
+use Rattle.std.specs.Prelude.{ℕ, ◌-◌, Bool, false, List, nat_eq, slice_index_or}
 use Rattle.survey.specs.declared.leg.Leg.{Leg}
 use Rattle.survey.specs.Counting.{count}
 use Rattle.survey.specs.Ends.{ends, station}
@@ -8,10 +8,6 @@ use Rattle.embedding.specs.Walks.{seek}
 -- how many marked numbers are below k
 abbrev pub rank : List Bool → ℕ → ℕ
 rank marks k = count (λ j. slice_index_or marks j false) k
-
--- what a table says of the key of e, counted on from a start
-abbrev pub numbered : (start : ℕ) → (keys ranks : List ℕ) → ℕ → ℕ
-numbered start keys ranks e = start + slice_index ranks (slice_index keys e)
 
 -- the lowest end from e on that stands at station s, or the number of ends
 abbrev pub lowest_from : List Leg → (e s : ℕ) → ℕ

@@ -1,9 +1,8 @@
-// The network of a plan as tables: its sides, and what its nodes want and give.
+// The network of a plan, as tables: its nodes, its sides, and what each node wants and gives.
 #![tactic(auto)]
 
-ghost use Rattle.std.specs.Prelude.{◌≡◌, ◌<◌, ◌≤◌, true, length};
+ghost use Rattle.std.specs.Prelude.{◌≡◌, ◌<◌, ◌≤◌, length};
 ghost use Rattle.survey.specs.Ends.{ends};
-ghost use Rattle.survey.specs.Model.{valid_legs};
 ghost use Rattle.embedding.specs.Rotation.{face};
 ghost use Rattle.search.specs.Networks.{units};
 ghost use Rattle.shape.specs.Nodes.{nodes as nodes_of};
@@ -12,39 +11,36 @@ ghost use Rattle.shape.specs.Statements.{HoldsNetwork, HoldsDemands};
 
 mod demands;
 mod nodes;
+mod numbering;
 mod sides;
 
 use demands::fill_units;
-use faces::fill_faces;
-use rotation::fill_next;
+use embedding::cave::Cave;
+use faces::Faces;
+use nodes::Nodes;
+use rotation::Rotation;
 use search::Side;
 use sides::fill_sides;
-use survey::leg::Leg;
 
 /// Fills in the sides of the plan's network and what its nodes want and give, where the face of the end `outer` is the
 /// outer one, and tells the number of nodes. Takes time in proportion to the legs, apart from the rotation.
 pub fn fill_network(
-    legs: &[Leg],
+    cave: &Cave,
     outer: usize,
     sides: &mut [Side],
     wants: &mut [u16],
     gives: &mut [u16],
 ) -> usize
-    requires valid { valid_legs legs.now ≡ true }
-    requires few { length legs.now ≤ 256 }
-    requires outer { outer < ends legs.now }
-    requires sides { length sides.old ≡ side_count legs.now }
+    requires outer { outer < ends cave.now.legs.now }
+    requires sides { length sides.old ≡ side_count cave.now.legs.now }
     requires wants { 1024 ≤ length wants.old }
     requires gives { 1024 ≤ length gives.old }
-    ensures nodes { result ≡ nodes_of legs.now }
-    ensures sides { HoldsNetwork legs.now sides.new }
-    ensures demands { HoldsDemands legs.now (face legs.now outer) (units wants.new) (units gives.new) }
+    ensures nodes { result ≡ nodes_of cave.now.legs.now }
+    ensures sides { HoldsNetwork cave.now.legs.now sides.new }
+    ensures demands { HoldsDemands cave.now.legs.now (face cave.now.legs.now outer) (units wants.new) (units gives.new) }
 {
-    let mut nexts = [0; 512];
-    let mut faces = [0; 512];
-    fill_next(legs, &mut nexts);
-    fill_faces(legs, &nexts, &mut faces);
-    let nodes = fill_sides(legs, &faces, sides);
-    fill_units(legs, &nexts, &faces, faces[outer], nodes, wants, gives);
-    nodes
+    let nodes = Nodes::new(Faces::new(Rotation::new(*cave)));
+    fill_sides(&nodes, sides);
+    fill_units(&nodes, nodes.faces.face(outer), wants, gives);
+    nodes.count
 }

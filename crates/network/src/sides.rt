@@ -1,39 +1,28 @@
 // The sides of the network.
-ghost use Rattle.std.specs.Prelude.{◌≡◌, ◌<◌, ◌≤◌, true, false, length};
+ghost use Rattle.std.specs.Prelude.{◌≡◌, ◌<◌, length};
 ghost use Rattle.survey.specs.Ends.{ends};
-ghost use Rattle.survey.specs.Model.{valid_legs};
-ghost use Rattle.embedding.specs.Rotation.{face};
-ghost use Rattle.embedding.specs.Tables.{Holds};
-ghost use Rattle.search.specs.Sides.{no_side};
-ghost use Rattle.shape.specs.Shapes.{switch};
-ghost use Rattle.shape.specs.Nodes.{face_node, switch_node, nodes as nodes_of};
 ghost use Rattle.shape.specs.Units.{leg_side, angle_side, back_side, side_count, plan_side};
 ghost use Rattle.shape.specs.Statements.{HoldsNetwork};
 
-use crate::nodes::{fill_face_nodes, fill_switch_nodes, fill_switches};
-use rotation::ends::twin;
+use crate::nodes::Nodes;
+use embedding::tables::fill;
+use pairs::twin;
 use search::Side;
-use survey::leg::Leg;
 
 // The side across a leg to the face of its end e.
-fn make_leg_side(legs: &[Leg], faces: &[usize], nodes: &[u16], e: usize) -> Side
-    requires valid { valid_legs legs.now ≡ true }
-    requires few { length legs.now ≤ 256 }
-    requires named { Holds 0 (face legs.now) faces.now (ends legs.now) }
-    requires places { ends legs.now ≤ length faces.now }
-    requires numbered { Holds 0 (face_node legs.now) nodes.now (ends legs.now) }
-    requires room { ends legs.now ≤ length nodes.now }
-    requires inside { e < ends legs.now }
-    ensures { result ≡ leg_side legs.now e }
+fn make_leg_side(nodes: &Nodes, e: usize) -> Side
+    requires { e < ends nodes.now.faces.rotation.cave.legs.now }
+    ensures { result ≡ leg_side nodes.now.faces.rotation.cave.legs.now e }
 {
-    let leg = legs[e / 2];
-    let room = if faces[e] == faces[twin(e)] {
+    let faces = &nodes.faces;
+    let leg = &faces.rotation.cave.legs[e / 2];
+    let room = if faces.face(e) == faces.face(twin(e)) {
         0
     } else {
         leg.limit as u16
     };
     Side {
-        node: nodes[e],
+        node: nodes.of_face(e),
         end: e as u16,
         room,
         weight: leg.weight,
@@ -42,36 +31,15 @@ fn make_leg_side(legs: &[Leg], faces: &[usize], nodes: &[u16], e: usize) -> Side
     }
 }
 
-// The sides of the legs.
-fn fill_leg_sides(legs: &[Leg], faces: &[usize], nodes: &[u16], sides: &mut [Side])
-    requires valid { valid_legs legs.now ≡ true }
-    requires few { length legs.now ≤ 256 }
-    requires named { Holds 0 (face legs.now) faces.now (ends legs.now) }
-    requires places { ends legs.now ≤ length faces.now }
-    requires numbered { Holds 0 (face_node legs.now) nodes.now (ends legs.now) }
-    requires room { ends legs.now ≤ length nodes.now }
-    requires space { ends legs.now ≤ length sides.old }
-    ensures { Holds no_side (plan_side legs.now) sides.new (ends legs.now) }
-{
-    for e in 0..2 * legs.len() {
-        sides[e] = make_leg_side(legs, faces, nodes, e);
-    }
-}
-
 // The side through the angle of e, to its face.
-fn make_angle_side(legs: &[Leg], nodes: &[u16], switches: &[bool], e: usize) -> Side
-    requires few { length legs.now ≤ 256 }
-    requires numbered { Holds 0 (face_node legs.now) nodes.now (ends legs.now) }
-    requires room { ends legs.now ≤ length nodes.now }
-    requires switches { Holds false (switch legs.now) switches.now (ends legs.now) }
-    requires marks { ends legs.now ≤ length switches.now }
-    requires inside { e < ends legs.now }
-    ensures { result ≡ angle_side legs.now e }
+fn make_angle_side(nodes: &Nodes, e: usize) -> Side
+    requires { e < ends nodes.now.faces.rotation.cave.legs.now }
+    ensures { result ≡ angle_side nodes.now.faces.rotation.cave.legs.now e }
 {
     Side {
-        node: nodes[twin(e)],
+        node: nodes.of_face(twin(e)),
         end: e as u16,
-        room: if switches[e] { 1 } else { 0 },
+        room: if nodes.is_switch(e) { 1 } else { 0 },
         weight: 0,
         wet: 0,
         free: true,
@@ -79,28 +47,15 @@ fn make_angle_side(legs: &[Leg], nodes: &[u16], switches: &[bool], e: usize) -> 
 }
 
 // The side back through the angle of e, to its source or sink.
-fn make_back_side(
-    legs: &[Leg],
-    nodes: &[u16],
-    switches: &[bool],
-    switch_nodes: &[u16],
-    e: usize,
-) -> Side
-    requires few { length legs.now ≤ 256 }
-    requires numbered { Holds 0 (face_node legs.now) nodes.now (ends legs.now) }
-    requires room { ends legs.now ≤ length nodes.now }
-    requires switches { Holds false (switch legs.now) switches.now (ends legs.now) }
-    requires marks { ends legs.now ≤ length switches.now }
-    requires origins { Holds 0 (switch_node legs.now) switch_nodes.now (ends legs.now) }
-    requires places { ends legs.now ≤ length switch_nodes.now }
-    requires inside { e < ends legs.now }
-    ensures { result ≡ back_side legs.now e }
+fn make_back_side(nodes: &Nodes, e: usize) -> Side
+    requires { e < ends nodes.now.faces.rotation.cave.legs.now }
+    ensures { result ≡ back_side nodes.now.faces.rotation.cave.legs.now e }
 {
     Side {
-        node: if switches[e] {
-            switch_nodes[e]
+        node: if nodes.is_switch(e) {
+            nodes.of_switch(e)
         } else {
-            nodes[twin(e)]
+            nodes.of_face(twin(e))
         },
         end: e as u16,
         room: 0,
@@ -110,49 +65,26 @@ fn make_back_side(
     }
 }
 
-// The sides of the angles, after those of the legs.
-fn fill_angle_sides(
-    legs: &[Leg],
-    nodes: &[u16],
-    switches: &[bool],
-    switch_nodes: &[u16],
-    sides: &mut [Side],
-)
-    requires few { length legs.now ≤ 256 }
-    requires numbered { Holds 0 (face_node legs.now) nodes.now (ends legs.now) }
-    requires room { ends legs.now ≤ length nodes.now }
-    requires switches { Holds false (switch legs.now) switches.now (ends legs.now) }
-    requires marks { ends legs.now ≤ length switches.now }
-    requires origins { Holds 0 (switch_node legs.now) switch_nodes.now (ends legs.now) }
-    requires places { ends legs.now ≤ length switch_nodes.now }
-    requires space { length sides.old ≡ side_count legs.now }
-    requires legs { Holds no_side (plan_side legs.now) sides.old (ends legs.now) }
-    ensures { Holds no_side (plan_side legs.now) sides.new (side_count legs.now) }
+// Side s: those of the legs come first, then two for each angle.
+fn make_side(nodes: &Nodes, s: usize) -> Side
+    requires { s < side_count nodes.now.faces.rotation.cave.legs.now }
+    ensures { result ≡ plan_side nodes.now.faces.rotation.cave.legs.now s }
 {
-    let n = 2 * legs.len();
-    for e in 0..n {
-        sides[n + 2 * e] = make_angle_side(legs, nodes, switches, e);
-        sides[n + 2 * e + 1] = make_back_side(legs, nodes, switches, switch_nodes, e);
+    let n = nodes.faces.rotation.cave.ends();
+    if s < n {
+        make_leg_side(nodes, s)
+    } else if s % 2 == 0 {
+        make_angle_side(nodes, (s - n) / 2)
+    } else {
+        make_back_side(nodes, (s - n) / 2)
     }
 }
 
-/// All sides, given the face of each end, and the number of nodes.
-pub fn fill_sides(legs: &[Leg], faces: &[usize], sides: &mut [Side]) -> usize
-    requires valid { valid_legs legs.now ≡ true }
-    requires few { length legs.now ≤ 256 }
-    requires named { Holds 0 (face legs.now) faces.now (ends legs.now) }
-    requires places { ends legs.now ≤ length faces.now }
-    requires space { length sides.old ≡ side_count legs.now }
-    ensures nodes { result ≡ nodes_of legs.now }
-    ensures sides { HoldsNetwork legs.now sides.new }
+/// All sides.
+pub fn fill_sides(nodes: &Nodes, sides: &mut [Side])
+    requires { length sides.old ≡ side_count nodes.now.faces.rotation.cave.legs.now }
+    ensures { HoldsNetwork nodes.now.faces.rotation.cave.legs.now sides.new }
 {
-    let mut face_nodes = [0; 512];
-    let mut switch_nodes = [0; 512];
-    let mut switches = [false; 512];
-    let count = fill_face_nodes(legs, faces, &mut face_nodes);
-    fill_switches(legs, &mut switches);
-    let nodes = fill_switch_nodes(legs, &switches, count, &mut switch_nodes);
-    fill_leg_sides(legs, faces, &face_nodes, sides);
-    fill_angle_sides(legs, &face_nodes, &switches, &switch_nodes, sides);
-    nodes
+    let count = sides.len();
+    fill(sides, count, |s| make_side(nodes, s));
 }

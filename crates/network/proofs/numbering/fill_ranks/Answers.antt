@@ -2,8 +2,8 @@
 use Rattle.std.proofs.Common.{false, get_or, arith}
 use Rattle.cycles.proofs.Tables.{holds_more, count_yes, count_no}
 use Rattle.network.specs.Tables.{rank}
-use Rattle.network.proofs.nodes.fill_ranks.Goals as goal
-use Rattle.network.proofs.nodes.fill_ranks.Goals.{then-marks-k, else-marks-k}
+use Rattle.network.proofs.numbering.fill_ranks.Goals as goal
+use Rattle.network.proofs.numbering.fill_ranks.Goals.{then-marks-k, else-marks-k}
 
 pub loop-k-preserved : goal.loop-k-preserved
 loop-k-preserved c =
