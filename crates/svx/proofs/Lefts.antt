@@ -1,16 +1,16 @@
 -- The lines that a reader has left, one after another.
-use Rattle.std.proofs.Common.{◌≡◌, ℕ, suc, ◌+◌, ◌-◌, ◌<◌, ◌≤◌, true, false, cond, eqb, ltb, List, [], ◌∷◌, ◌++◌, length, take, drop, sym, ap, ◌∙◌, ⊎_elim, append_assoc, append-nil, add-zero, arith, length-drop}
+use Rattle.std.proofs.Common.{◌≡◌, ℕ, suc, ◌+◌, ◌-◌, ◌<◌, ◌≤◌, true, false, cond, eqb, ltb, List, [], ◌∷◌, ◌++◌, length, take, drop, sym, refl, ap, ◌∙◌, ⊎_elim, append_assoc, append-nil, add-zero, arith, length-drop}
 use native.Mathlib.Nat.{sub-zero}
 use Rattle.std.proofs.lemmas.Bool.{cases_Bool, cases_lt, cond-true, cond-false, le-ltb, lt-ltb}
-use Rattle.std.proofs.lemmas.List.{drop-drop, length_push, take_rest, length-take-le}
-use Rattle.svx_fields.specs.declared.bytes.Scan.TheVariants.{ToLineFeed}
-use Rattle.svx_fields.specs.Bytes.{before, stops_at}
+use Rattle.std.proofs.lemmas.List.{drop-drop, length_push, take_rest}
+use Rattle.std.specs.List.{position_or_len}
+use Rattle.svx_fields.specs.Bytes.{ends_line}
 use Rattle.svx_line.specs.Spans.{Span, span}
 use Rattle.svx.specs.Lines.{lines_from, lines_left}
 
 -- how many bytes stand before the line feed
 abbrev feed : List ℕ → ℕ
-feed bs = before (stops_at ToLineFeed) bs
+feed bs = position_or_len ends_line bs
 
 -- what follows the line feed, if there is one
 abbrev after : ℕ → List ℕ → ℕ → List Span
@@ -40,13 +40,13 @@ one_line p w [] = ap (λ (v : List ℕ). span v (p - length w) ∷ []) (sym (app
 one_line p w (b ∷ bs) =
     ⊎_elim
     (λ (n : eqb b 10 ≡ true).
-    let z : feed (b ∷ bs) ≡ 0 = cond-true (eqb b 10) 0 (suc (feed bs)) n in
+    let z : feed (b ∷ bs) ≡ 0 = rw n refl in
     cond-true (eqb b 10) (span w (p - length w) ∷ lines_from (p + 1) [] bs) (lines_from (p + 1) (w ++ (b ∷ [])) bs) n
     ∙ ap (λ (v : List ℕ). span v (p - length w) ∷ lines_from (p + 1) [] bs) (sym (append-nil w))
     ∙ ap (λ (q : ℕ). span (w ++ []) (p - length w) ∷ lines_from (q + 1) [] bs) (sym (add-zero p))
     ∙ sym (ap (λ (m : ℕ). span (w ++ take m (b ∷ bs)) (p - length w) ∷ after p (b ∷ bs) m) z ∙ ap (λ (r : List Span). span (w ++ []) (p - length w) ∷ r) (after_some p (b ∷ bs) 0 (omega arith))))
     (λ (n : eqb b 10 ≡ false).
-    let z : feed (b ∷ bs) ≡ suc (feed bs) = cond-false (eqb b 10) 0 (suc (feed bs)) n in
+    let z : feed (b ∷ bs) ≡ suc (feed bs) = rw n (omega arith) in
     cond-false (eqb b 10) (span w (p - length w) ∷ lines_from (p + 1) [] bs) (lines_from (p + 1) (w ++ (b ∷ [])) bs) n
     ∙ one_line (p + 1) (w ++ (b ∷ [])) bs
     ∙ ap (λ (v : List ℕ). span v ((p + 1) - length (w ++ (b ∷ []))) ∷ after (p + 1) bs (feed bs)) (append_assoc w (b ∷ []) (take (feed bs) bs))
@@ -79,20 +79,13 @@ left_step text p m h e =
     ∙ ap (λ (r : List Span). span (take m (drop p text)) p ∷ r) (after_left text p m h)
 
 -- the line as the code cuts it
-pub left_cut : (text : List ℕ) (p m : ℕ) → p ≤ length text → m ≡ feed (take (length text - p) (drop p text)) → lines_left p text ≡ span (take ((p + m) - p) (drop p text)) p ∷ lines_left (p + m + 1) text
-left_cut text p m h e =
-    let k : (p + m) - p ≡ m = omega arith in
-    left_step text p m h (e ∙ ap feed (take_rest text p)) ∙ ap (λ (n : ℕ). span (take n (drop p text)) p ∷ lines_left (p + m + 1) text) (sym k)
+pub left_cut : (text rest : List ℕ) (p m : ℕ) → p ≤ length text → rest ≡ take (length text - p) (drop p text) → m ≡ feed rest → lines_left p text ≡ span (take m rest) p ∷ lines_left (p + m + 1) text
+left_cut text rest p m h e k =
+    let f : rest ≡ drop p text = e ∙ take_rest text p in
+    left_step text p m h (k ∙ ap feed f) ∙ ap (λ (r : List ℕ). span (take m r) p ∷ lines_left (p + m + 1) text) (sym f)
 
 pub left_none : (text : List ℕ) (p : ℕ) → length text < p → lines_left p text ≡ []
 left_none text p h = cond-true (ltb (length text) p) [] (lines_from p [] (drop p text)) (lt-ltb (length text) p h)
-
-pub left_inside : (text : List ℕ) (p m : ℕ) → p ≤ length text → m ≤ length (take (length text - p) (drop p text)) → p + length (take ((p + m) - p) (drop p text)) ≤ length text
-left_inside text p m h k =
-    let l = length-drop p text in
-    let r = ap length (take_rest text p) in
-    let t = length-take-le ((p + m) - p) (drop p text) (omega arith) in
-    omega arith
 
 pub some_left : (text : List ℕ) (p : ℕ) (x : Span) (ls : List Span) → lines_left p text ≡ x ∷ ls → p ≤ length text
 some_left text p x ls e =

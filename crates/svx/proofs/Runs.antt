@@ -1,11 +1,14 @@
 -- What the loop over the lines keeps, and what a whole run says of the text and of the survey.
-use Rattle.std.proofs.Common.{◌≡◌, ℕ, ◌+◌, ◌≤◌, Bool, true, false, ltb, ◌⊎◌, List, [], ◌∷◌, length, drop, MatchBool, sym, refl, subst, inl, inr, ⊎_elim, arith}
+use Rattle.std.proofs.Common.{◌≡◌, ℕ, ◌+◌, ◌≤◌, Bool, true, false, ltb, ◌⊎◌, List, [], ◌∷◌, length, drop, MatchBool, Ok, Err, Result, sym, refl, ap, ◌∙◌, subst, inl, inr, ⊎_elim, arith}
 use Rattle.std.proofs.lemmas.Bool.{cases_Bool, cond-false, le-ltb}
 use Rattle.std.proofs.lemmas.Bool.Decides.{when_true, when_false}
+use Rattle.std.specs.Result.{MatchResult, IsErrAnd}
 use Rattle.refusal.specs.declared.Refusal.{Refusal}
-use Rattle.refusal.specs.Answers.{Answer, number_of, value_of, refused}
+use Rattle.refusal.specs.Answers.{Answer, number_of, value_of, accepted, refused, told}
 use Rattle.survey.specs.declared.leg.Leg.{Leg}
-use Rattle.survey.specs.Model.{is_accepted}
+use Rattle.survey.specs.declared.leg.Change.TheVariants.{Enter}
+use Rattle.survey.specs.Model.{is_accepted, enter_legs}
+use Rattle.survey.specs.Changes.{changes}
 use Rattle.survey.proofs.Accepted.{refused_not}
 use Rattle.svx_line.specs.Spans.{Span, fields}
 use Rattle.svx_line.specs.Verdicts.{Verdict, nothing, offers, bad, verdict}
@@ -13,8 +16,8 @@ use Rattle.svx.specs.declared.fault.Fault.{Fault}
 use Rattle.svx.specs.declared.fault.Layer.TheVariants.{Survey}
 use Rattle.svx.specs.Lines.{lines, lines_from, lines_left}
 use Rattle.svx.specs.Script.{Script, ends, flaw, offer, follow, script_from, script, offered, keeps_rules}
-use Rattle.svx.specs.Reading.{Outcome, through, stopped, Meaning, answer_to, takes, Entering, refused_at, Reads, TakesAll, RefusesOne, Exactly}
-use Rattle.svx.specs.Told.{fault_told}
+use Rattle.svx.specs.Reading.{Outcome, through, stopped, Meaning, answer_to, takes, refused_at, Reads, TakesAll, RefusesOne, Exactly}
+use Rattle.svx.specs.Told.{fault_told, outcome}
 
 when_map : (b : Bool) (P P' Q Q' : Type 0) → (b ≡ true → P → P') → (b ≡ false → Q → Q') → MatchBool b P Q → MatchBool b P' Q'
 when_map true P P' Q Q' f g h = f refl h
@@ -22,6 +25,13 @@ when_map false P P' Q Q' f g h = g refl h
 
 pub not_through : (f : Fault) → fault_told f ≡ through → ⊥
 not_through f e = let z : ◌≡◌ {A = ℕ} 0 1 = cc in omega arith
+
+-- what the code makes of the survey's refusal
+pub at_line : (k p : ℕ) (r : Result (Unit {0}) Refusal) (q : Result (Unit {0}) Fault) (F : Refusal → Fault → Type 0) → ((e : Refusal) (f : Fault) → F e f → f ≡ record { cause = e; line = k; place = p; layer = Survey })
+    → MatchResult r (λ x. q ≡ Ok x) (λ e. IsErrAnd q (F e)) → MatchResult r (λ _. outcome q ≡ through) (λ e. outcome q ≡ stopped (number_of e) (value_of e) k p Survey)
+at_line k p (Ok x) q F g h = ap outcome h
+at_line k p (Err e) (Ok x) F g h = absurd h
+at_line k p (Err e) (Err f) F g h = ap fault_told (g e f h)
 
 module _ {S : Type 0} (m : Meaning S) where
   -- a line read through, and then the lines after it
@@ -43,12 +53,27 @@ module _ {S : Type 0} (m : Meaning S) where
   halt k rest (bad n v q) s o t no' h = h
   halt k rest (offers p l) s o t no' h = (h.0, h.1, when_map (takes m s l) _ _ _ _ (λ _ i. absurd (no' i.0)) (λ _ i. i) h.2)
 
-  -- the survey refuses the leg that a line offers
-  pub refused_offer : (k p : ℕ) (l : Leg) (e : Refusal) (s u : S) → refused e ≡ answer_to m s l → Entering m s l u → Reads m (offer k p l ends) s (stopped (number_of e) (value_of e) k p Survey) u
-  refused_offer k p l e s u r h =
-      let W : Answer → Type 0 = λ a. MatchBool (is_accepted a) ((stopped (number_of e) (value_of e) k p Survey ≡ through) × (u ≡ u)) ((stopped (number_of e) (value_of e) k p Survey ≡ refused_at k p a) × (u ≡ u)) in
-      let B : Bool → Type 0 = λ b. MatchBool b ((stopped (number_of e) (value_of e) k p Survey ≡ through) × (u ≡ u)) ((stopped (number_of e) (value_of e) k p Survey ≡ refused_at k p (refused e)) × (u ≡ u)) in
-      (u, h, subst W r (subst B (sym (refused_not e)) (refl, refl)))
+  by_answer : (k p : ℕ) (r : Result (Unit {0}) Refusal) (o : Outcome) (u : S) → MatchResult r (λ _. o ≡ through) (λ e. o ≡ stopped (number_of e) (value_of e) k p Survey)
+      → MatchBool (is_accepted (told r)) ((o ≡ through) × (u ≡ u)) ((o ≡ refused_at k p (told r)) × (u ≡ u))
+  by_answer k p (Ok x) o u h = (h, refl)
+  by_answer k p (Err e) o u h =
+      let B : Bool → Type 0 = λ b. MatchBool b ((o ≡ through) × (u ≡ u)) ((o ≡ refused_at k p (refused e)) × (u ≡ u)) in
+      subst B (sym (refused_not e)) (h, refl)
+
+  -- what the survey answers to the leg that a line offers, and what the code makes of it
+  pub entered : (k p : ℕ) (l : Leg) (r : Result (Unit {0}) Refusal) (o : Outcome) (s u : S) → told r ≡ answer_to m s l → m.legs u ≡ enter_legs (m.legs s) (m.enters s) l
+      → ((told r ≡ accepted → ⊥) → (m.enters u ≡ m.enters s) × (m.amends u ≡ m.amends s)) → m.leads s (changes (told r) (Enter l)) u
+      → MatchResult r (λ _. o ≡ through) (λ e. o ≡ stopped (number_of e) (value_of e) k p Survey) → Reads m (offer k p l ends) s o u
+  entered k p l r o s u a list facts led h =
+      let P : Answer → Type 0 = λ b. MatchBool (is_accepted b) ((o ≡ through) × (u ≡ u)) ((o ≡ refused_at k p b) × (u ≡ u)) in (
+        u,
+        record {
+          list = list;
+          facts = λ f. facts (λ e. let t : is_accepted (told r) ≡ true = ap is_accepted e in let g : is_accepted (told r) ≡ false = ap is_accepted a ∙ f in let z : ◌≡◌ {A = ℕ} 0 1 = cc in omega arith);
+          led = subst (λ (b : Answer). m.leads s (changes b (Enter l)) u) a led;
+        },
+        subst P a (by_answer k p r o u h),
+      )
 
   -- what is left to read from here makes a reading of the whole from the start
   abbrev pub Onward : List ℕ → ℕ → ℕ → S → S → Type 0

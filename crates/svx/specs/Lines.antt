@@ -1,8 +1,8 @@
 -- The lines of a survey text, each with its place.
-use Rattle.std.specs.Prelude.{ℕ, ◌+◌, ◌-◌, ◌≤◌, cond, List, [], ◌∷◌, ◌++◌, length, drop, Some, None, Option, ◌==◌, nat_lt}
-use Rattle.svx_line.specs.declared.token.Part.{Part}
+use Rattle.std.specs.Prelude.{ℕ, ◌+◌, ◌-◌, cond, List, [], ◌∷◌, ◌++◌, length, drop, Some, None, Option, ◌==◌, nat_lt}
+use Rattle.svx_line.specs.declared.part.Part.{Part}
 use Rattle.svx_line.specs.Spans.{Span, span}
-use Rattle.svx_line.specs.Tokens.{span_of}
+use Rattle.svx_line.specs.Parts.{span_of}
 
 -- the lines from place p on, `begun` being the bytes of a line already begun; a line feed is byte 10
 abbrev pub lines_from : (p : ℕ) (begun bytes : List ℕ) → List Span
@@ -26,8 +26,3 @@ with_line (Some x) ls = span_of x ∷ ls
 abbrev pub lines_given : Option Part → ℕ
 lines_given None = 0
 lines_given (Some x) = 1
-
--- the line ends by place n
-abbrev pub Within : Option Part → ℕ → Type 0
-Within None n = Unit {0}
-Within (Some x) n = x.place + length x.bytes.now ≤ n

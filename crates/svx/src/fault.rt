@@ -2,6 +2,7 @@ ghost use Rattle.std.specs.Prelude.{◌≡◌};
 ghost use Rattle.refusal.specs.Answers.{number_of, value_of};
 
 use refusal::Refusal;
+use svx_line::offer::Flaw;
 
 /// Whose refusal a fault is: the text's, or the survey's own.
 #[derive(Clone, Copy)]
@@ -20,6 +21,18 @@ pub struct Fault {
 }
 
 impl Fault {
+    /// What is wrong with a line of the text.
+    pub fn in_text(flaw: Flaw, line: usize) -> Fault
+        ensures { result ≡ record { cause = flaw.cause; line = line; place = flaw.place; layer = Layer.Text } }
+    {
+        Fault {
+            cause: flaw.cause,
+            line,
+            place: flaw.place,
+            layer: Layer::Text,
+        }
+    }
+
     /// The number of the refusal.
     pub fn number(&self) -> u32
         ensures { result ≡ number_of self.now.cause }

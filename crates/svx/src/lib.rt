@@ -1,15 +1,16 @@
 // The survey text, read into any survey.
 #![tactic(auto)]
 
-ghost use Rattle.std.specs.Prelude.{◌≡◌, ◌+◌, ◌^◌, ◌<◌, length};
+ghost use Rattle.std.specs.Prelude.{◌≡◌};
 ghost use Rattle.svx_line.specs.Spans.{fields};
-ghost use Rattle.svx_line.specs.Tokens.{span_of};
+ghost use Rattle.svx_line.specs.Parts.{span_of};
 ghost use Rattle.svx_line.specs.Verdicts.{verdict};
 ghost use Rattle.svx.specs.Script.{ends, follow, offer, script};
 ghost use Rattle.svx.specs.Reading.{means, Reads, Exactly};
 ghost use Rattle.svx.specs.Told.{outcome};
 
 pub mod fault;
+mod line_feed;
 mod reader;
 
 use fault::{Fault, Layer};
@@ -18,7 +19,7 @@ use refusal::Refusal;
 use survey::Survey;
 use svx_line::line::judge;
 use svx_line::offer::Offer;
-use svx_line::token::Part;
+use svx_line::part::Part;
 
 /// The longest text that is read, in bytes.
 const MOST_BYTES: usize = 65536;
@@ -27,31 +28,21 @@ const MOST_BYTES: usize = 65536;
 fn enter_offer<S: Survey>(x: Offer, line: usize, survey: &mut S) -> Result<(), Fault>
     ensures { Reads (means S.legs S.enters S.amends S.leads) (offer line x.place x.leg ends) survey.old (outcome result) survey.new }
 {
-    match survey.enter(x.leg) {
-        Ok(()) => Ok(()),
-        Err(cause) => Err(Fault {
-            cause,
-            line,
-            place: x.place,
-            layer: Layer::Survey,
-        }),
-    }
+    survey.enter(x.leg).map_err(|cause| Fault {
+        cause,
+        line,
+        place: x.place,
+        layer: Layer::Survey,
+    })
 }
 
 // Reads one line, and enters its leg if it has one.
 fn read_line<'a, S: Survey>(part: Part<'a>, line: usize, survey: &mut S) -> Result<(), Fault>
-    requires { part.place + length part.bytes.now < 2 ^ 64 }
     ensures { Reads (means S.legs S.enters S.amends S.leads) (follow (verdict (fields (span_of part.entry))) line ends) survey.old (outcome result) survey.new }
 {
-    match judge(part.bytes, part.place) {
-        Err(flaw) => Err(Fault {
-            cause: flaw.cause,
-            line,
-            place: flaw.place,
-            layer: Layer::Text,
-        }),
-        Ok(None) => Ok(()),
-        Ok(Some(x)) => enter_offer(x, line, survey),
+    match judge(part).map_err(|flaw| Fault::in_text(flaw, line))? {
+        None => Ok(()),
+        Some(offer) => enter_offer(offer, line, survey),
     }
 }
 
@@ -70,11 +61,8 @@ pub fn read<S: Survey>(text: &[u8], survey: &mut S) -> Result<(), Fault>
         });
     }
     let mut reader = Reader::new(text);
-    while let Some(x) = reader.next_line() {
-        match read_line(x, reader.line, survey) {
-            Ok(()) => {}
-            Err(fault) => return Err(fault),
-        }
+    while let Some(part) = reader.next_line() {
+        read_line(part, reader.line, survey)?;
     }
     Ok(())
 }

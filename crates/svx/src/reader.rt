@@ -1,9 +1,7 @@
-ghost use Rattle.std.specs.Prelude.{◌≡◌, ◌+◌, ◌<◌, ◌≤◌, length};
-ghost use Rattle.svx.specs.Lines.{lines_left, with_line, lines_given, Within};
+ghost use Rattle.std.specs.Prelude.{◌≡◌, ◌≤◌};
 
-use svx_fields::bytes::Scan;
-use svx_fields::scan_bytes;
-use svx_line::token::Part;
+use crate::line_feed::find_line_feed;
+use svx_line::part::Part;
 
 /// Reads a lent text line by line: the place of the next line, and the number of the line read last.
 #[derive(Clone, Copy)]
@@ -11,9 +9,13 @@ pub(crate) struct Reader<'a> {
     pub(crate) text: &'a [u8],
     pub(crate) place: usize,
     pub(crate) line: usize,
+    ghost counted: { line ≤ place },
 }
 
 impl<'a> Reader<'a> {
+    ghost use Rattle.std.specs.Prelude.{◌+◌, ◌<◌, length};
+    ghost use Rattle.svx.specs.Lines.{lines_left, with_line, lines_given};
+
     /// A reader at the start of the text.
     pub(crate) fn new(text: &'a [u8]) -> Reader<'a>
         ensures text { result.text.now ≡ text.now }
@@ -28,26 +30,22 @@ impl<'a> Reader<'a> {
     }
 
     /// The next line, a part of the text.
+    #[tactic(auto, using(svx_fields::proofs::Scans::place_or_length))]
     pub(crate) fn next_line(&mut self) -> Option<Part<'a>>
-        requires { self.old.line ≤ self.old.place }
         ensures text { self.new.text.now ≡ self.old.text.now }
         ensures lines { lines_left self.old.place self.old.text.now ≡ with_line result (lines_left self.new.place self.old.text.now) }
         ensures line { self.new.line ≡ self.old.line + lines_given result }
-        ensures counted { self.new.line ≤ self.new.place }
-        ensures within { Within result (length self.old.text.now) }
         ensures last { lines_given result ≡ 0 → length self.old.text.now < self.old.place }
         ensures onward { self.old.place + lines_given result ≤ self.new.place }
     {
-        if self.place > self.text.len() {
-            return None;
-        }
-        let start = self.place;
-        let end = start + scan_bytes(&self.text[start..], Scan::ToLineFeed);
-        self.place = end + 1;
+        let place = self.place;
+        let rest = self.text.get(place..)?;
+        let length = find_line_feed(rest).unwrap_or(rest.len());
+        self.place = place + length + 1;
         self.line += 1;
         Some(Part {
-            bytes: &self.text[start..end],
-            place: start,
+            bytes: &rest[..length],
+            place,
         })
     }
 }

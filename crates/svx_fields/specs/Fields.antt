@@ -1,22 +1,16 @@
 -- The fields of a leg: which bytes make a station, a compass reading, a tape or clino reading, and what they tell.
-use Rattle.std.specs.Prelude.{ℕ, ◌+◌, ◌-◌, ◌*◌, Bool, true, false, cond, not, ◌&&◌, ◌||◌, List, [], ◌∷◌, length, take, drop, Some, None, Option, ◌==◌, nat_le}
-use Rattle.svx_fields.specs.declared.bytes.Scan.TheVariants.{ToPoint}
-use Rattle.svx_fields.specs.Bytes.{before, stops_at}
+use Rattle.std.specs.Prelude.{ℕ, ◌+◌, ◌-◌, ◌*◌, Bool, true, false, cond, not, ◌&&◌, ◌||◌, List, [], ◌∷◌, length, drop, Some, None, Option, ◌==◌, nat_le}
+use Rattle.std.specs.List.{list_all, fold, before_first, position_or_len}
 
 abbrev pub digit : ℕ → Bool
 digit b = nat_le 48 b && nat_le b 57
 
 abbrev pub all_digits : List ℕ → Bool
-all_digits [] = true
-all_digits (b ∷ bs) = digit b && all_digits bs
+all_digits bs = list_all digit bs
 
--- the number that digits make in base ten, after the digits that made n
-abbrev pub number_after : ℕ → List ℕ → ℕ
-number_after n [] = n
-number_after n (b ∷ bs) = number_after (n * 10 + (b - 48)) bs
-
+-- the number that digits make in base ten
 abbrev pub number : List ℕ → ℕ
-number bs = number_after 0 bs
+number bs = fold (λ n b. n * 10 + (b - 48)) 0 bs
 
 -- one to four digits, the first not 0
 abbrev pub is_station : List ℕ → Bool
@@ -27,11 +21,14 @@ abbrev pub station_field : List ℕ → Option ℕ
 station_field bs = cond (is_station bs) (Some (number bs)) None
 
 -- what stands before the point, and the rest from the point on
+abbrev pub point : ℕ → Bool
+point b = b == 46
+
 abbrev pub whole_part : List ℕ → List ℕ
-whole_part bs = take (before (stops_at ToPoint) bs) bs
+whole_part bs = before_first point bs
 
 abbrev pub from_point : List ℕ → List ℕ
-from_point bs = drop (before (stops_at ToPoint) bs) bs
+from_point bs = drop (position_or_len point bs) bs
 
 -- one digit to so many
 abbrev pub some_digits : (most : ℕ) → List ℕ → Bool

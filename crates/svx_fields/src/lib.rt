@@ -1,13 +1,13 @@
 // Bytes and fields of a survey text.
 #![tactic(auto)]
 
-ghost use Rattle.std.specs.Prelude.{◌≡◌, ◌^◌, ◌<◌, ◌≤◌, true, length};
-ghost use Rattle.svx_fields.specs.Bytes.{class_of, stops_at, before};
-ghost use Rattle.svx_fields.specs.Fields.{digit, all_digits, number as number_of, station_field, some_digits, fraction as fraction_of, amount as amount_of, tenths as tenths_of, compass_field, after_sign, reading_field};
+ghost use Rattle.std.specs.Prelude.{◌≡◌, ◌^◌, ◌<◌, ◌≤◌, true, length, position};
+ghost use Rattle.svx_fields.specs.Bytes.{class_of};
+ghost use Rattle.svx_fields.specs.Fields.{all_digits, number as number_of, station_field, point, whole_part, from_point, some_digits, fraction as fraction_of, amount as amount_of, tenths as tenths_of, compass_field, after_sign, reading_field};
 
 pub mod bytes;
 
-use bytes::{ByteClass, Scan};
+use bytes::ByteClass;
 
 /// The class of a byte.
 pub fn classify(b: u8) -> ByteClass
@@ -22,79 +22,29 @@ pub fn classify(b: u8) -> ByteClass
     }
 }
 
-// The scan stops at this byte.
-fn stops(scan: Scan, b: u8) -> bool
-    ensures { result ≡ stops_at scan b }
-{
-    match scan {
-        Scan::ToLineFeed => match classify(b) {
-            ByteClass::LineFeed => true,
-            _ => false,
-        },
-        Scan::ToField => match classify(b) {
-            ByteClass::Blank => false,
-            _ => true,
-        },
-        Scan::ToGap => match classify(b) {
-            ByteClass::Blank | ByteClass::Semicolon => true,
-            _ => false,
-        },
-        Scan::ToPoint => match char::from(b) {
-            '.' => true,
-            _ => false,
-        },
-    }
-}
-
-/// How many bytes stand before the first at which the scan stops.
-pub fn scan_bytes(s: &[u8], scan: Scan) -> usize
-    ensures count { result ≡ before (stops_at scan) s.now }
-    ensures within { result ≤ length s.now }
-{
-    for i in 0..s.len() {
-        if stops(scan, s[i]) {
-            return i;
-        }
-    }
-    s.len()
-}
-
-fn is_digit(b: u8) -> bool
-    ensures { result ≡ digit b }
-{
-    match char::from(b) {
-        '0'..='9' => true,
-        _ => false,
-    }
-}
-
 fn are_digits(s: &[u8]) -> bool
     ensures { result ≡ all_digits s.now }
 {
-    for b in s {
-        if !is_digit(*b) {
-            return false;
-        }
-    }
-    true
+    s.iter().all(|b| b.is_ascii_digit())
 }
 
 // One digit to `most`.
 fn few_digits(s: &[u8], most: usize) -> bool
     ensures { result ≡ some_digits most s.now }
 {
-    1 <= s.len() && s.len() <= most && are_digits(s)
+    (1..=most).contains(&s.len()) && are_digits(s)
 }
 
 // The number that at most four digits make.
 fn number(s: &[u8]) -> u32
-    requires { (length s.now ≤ 4) × (all_digits s.now ≡ true) }
+    requires few { length s.now ≤ 4 }
+    requires digits { all_digits s.now ≡ true }
     ensures is { result ≡ number_of s.now }
     ensures small { result < 10 ^ length s.now }
 {
-    let mut n: u32 = 0;
+    let mut n = 0;
     for b in s {
-        n = n * 10 + (*b - b'0') as u32;
+        n = n * 10 + u32::from(b - b'0');
     }
     n
 }
@@ -106,13 +56,25 @@ pub fn station(s: &[u8]) -> Option<u32>
     match s {
         [] => None,
         [first, rest @ ..] => {
-            if *first != b'0' && are_digits(s) && rest.len() <= 3 {
-                Some(number(s))
-            } else {
-                None
-            }
+            (*first != b'0' && are_digits(s) && rest.len() <= 3).then(|| number(s))
         }
     }
+}
+
+// The place of the first point, if there is one.
+fn find_point(s: &[u8]) -> Option<usize>
+    ensures { result ≡ position point s.now }
+{
+    s.iter().position(|b| *b == b'.')
+}
+
+// What stands before the point, and the rest from the point on.
+#[tactic(auto, using(crate::proofs::Scans::place_or_length))]
+fn split_at_point(s: &[u8]) -> (&[u8], &[u8])
+    ensures whole { result.0.now ≡ whole_part s.now }
+    ensures rest { result.1.now ≡ from_point s.now }
+{
+    s.split_at(find_point(s).unwrap_or(s.len()))
 }
 
 // Nothing, or a point and one digit to `most`.
@@ -129,8 +91,8 @@ fn fraction(s: &[u8], most: usize) -> bool
 fn amount(s: &[u8], most: usize, decimals: usize) -> bool
     ensures { result ≡ amount_of most decimals s.now }
 {
-    let k = scan_bytes(s, Scan::ToPoint);
-    few_digits(&s[0..k], most) && fraction(&s[k..], decimals)
+    let (whole, rest) = split_at_point(s);
+    few_digits(whole, most) && fraction(rest, decimals)
 }
 
 // A well-formed compass reading in tenths of a degree.
@@ -138,11 +100,10 @@ fn tenths(s: &[u8]) -> u32
     requires { amount_of 3 1 s.now ≡ true }
     ensures { result ≡ tenths_of s.now }
 {
-    let k = scan_bytes(s, Scan::ToPoint);
-    let n = number(&s[0..k]);
-    match &s[k..] {
-        [] => n * 10,
-        [_, rest @ ..] => n * 10 + number(rest),
+    let (whole, rest) = split_at_point(s);
+    match rest {
+        [] => number(whole) * 10,
+        [_, decimals @ ..] => number(whole) * 10 + number(decimals),
     }
 }
 
@@ -150,11 +111,7 @@ fn tenths(s: &[u8]) -> u32
 pub fn compass(s: &[u8]) -> Option<u32>
     ensures { result ≡ compass_field s.now }
 {
-    if !amount(s, 3, 1) {
-        return None;
-    }
-    let t = tenths(s);
-    if t <= 3599 { Some(t) } else { None }
+    amount(s, 3, 1).then(|| tenths(s)).filter(|t| *t <= 3599)
 }
 
 // The bytes after an optional sign.
@@ -162,11 +119,8 @@ fn unsigned(s: &[u8]) -> &[u8]
     ensures { result.now ≡ after_sign s.now }
 {
     match s {
-        [] => s,
-        [first, rest @ ..] => match char::from(*first) {
-            '+' | '-' => rest,
-            _ => s,
-        },
+        [b'+' | b'-', rest @ ..] => rest,
+        _ => s,
     }
 }
 

@@ -1,3 +1,2 @@
-mod FirstToken
-mod Splitting
+pub mod Splitting
 mod Judging

@@ -1,4 +1,5 @@
 pub mod Spans
+pub mod Parts
 pub mod Tokens
 pub mod Verdicts
 pub mod Told

@@ -1,72 +1,77 @@
 // Tokens and fields of a line.
-ghost use Rattle.std.specs.Prelude.{◌≡◌, ◌+◌, ◌^◌, ◌<◌, ◌≤◌, [], map, length, take, drop, slice_set};
-ghost use Rattle.svx_line.specs.Spans.{fields_from};
-ghost use Rattle.svx_line.specs.Tokens.{sign, sign_at, sign_of, span_found, span_of, span_told};
+ghost use Rattle.std.specs.Prelude.{◌≡◌, position};
+ghost use Rattle.std.specs.Iterator.{YieldsFirstBy, item_count};
+ghost use Rattle.svx_fields.specs.Bytes.{ends_blanks, ends_field};
+ghost use Rattle.svx_line.specs.Spans.{fields};
+ghost use Rattle.svx_line.specs.Parts.{span_of};
+ghost use Rattle.svx_line.specs.Tokens.{sign, sign_of, rest_after};
 
-use crate::token::{Part, Token};
-use svx_fields::bytes::{ByteClass, Scan};
-use svx_fields::{classify, scan_bytes};
+use crate::part::Part;
+use crate::token::Token;
+use svx_fields::bytes::ByteClass;
+use svx_fields::classify;
 
-// The token that starts with the first byte, which is no blank.
-fn token_here<'a>(rest: &'a [u8], place: usize) -> Token<'a>
-    ensures { sign result ≡ sign_at place rest.now }
+// The place of the first byte that is no blank, if there is one.
+fn find_field(s: &[u8]) -> Option<usize>
+    ensures { result ≡ position ends_blanks s.now }
 {
-    match rest {
-        [] => Token::LineEnd,
-        [first, ..] => {
-            let n = scan_bytes(rest, Scan::ToGap);
-            match classify(*first) {
-                ByteClass::Semicolon => Token::Comment,
-                ByteClass::Star => Token::Command(&rest[0..n], place),
-                _ => Token::Field(&rest[0..n], place),
+    s.iter().position(|b| classify(*b) != ByteClass::Blank)
+}
+
+// The place of the first byte that ends a field, if there is one.
+fn find_gap(s: &[u8]) -> Option<usize>
+    ensures { result ≡ position ends_field s.now }
+{
+    s.iter().position(|b| matches!(classify(*b), ByteClass::Blank | ByteClass::Semicolon))
+}
+
+/// Reads a line token by token; as an iterator it gives the line's fields.
+#[derive(Drop)]
+pub struct Lexer<'a> {
+    pub rest: Part<'a>,
+}
+
+impl<'a> Lexer<'a> {
+    pub fn new(line: Part<'a>) -> Lexer<'a>
+        ensures { span_of result.rest ≡ span_of line.entry }
+    {
+        Lexer { rest: line }
+    }
+
+    /// The first token of the rest. After it the rest begins where a field or a command ends, and is as it was where none is left.
+    #[tactic(auto, using(svx_fields::proofs::Scans::place_or_length))]
+    pub fn next_token(&mut self) -> Token<'a>
+        ensures token { sign result ≡ sign_of self.old.rest.place self.old.rest.bytes.now }
+        ensures rest { span_of self.new.rest ≡ rest_after (sign result) (span_of self.old.rest) }
+    {
+        let line = self.rest;
+        let (_, rest) = line.split_at(find_field(line.bytes).unwrap_or(line.bytes.len()));
+        let (word, after) = rest.split_at(find_gap(rest.bytes).unwrap_or(rest.bytes.len()));
+        let Some(first) = rest.bytes.first() else {
+            return Token::LineEnd;
+        };
+        match classify(*first) {
+            ByteClass::Semicolon => Token::Comment,
+            ByteClass::Star => {
+                self.rest = after;
+                Token::Command(word)
+            }
+            _ => {
+                self.rest = after;
+                Token::Field(word)
             }
         }
     }
 }
 
-/// The first token of the line from `at` on, the line standing at `start` in the text.
-pub fn token<'a>(line: &'a [u8], at: usize, start: usize) -> Token<'a>
-    requires { (at ≤ length line.now) × (start + length line.now < 2 ^ 64) }
-    ensures { sign result ≡ sign_of (start + at) (drop at line.now) }
-{
-    let k = at + scan_bytes(&line[at..], Scan::ToField);
-    token_here(&line[k..], start + k)
-}
+impl<'a> Iterator for Lexer<'a> {
+    type Item = Part<'a>;
 
-// The first field or command of the line from `at` on.
-fn next_field<'a>(line: &'a [u8], at: usize, start: usize) -> Option<Part<'a>>
-    requires { (at ≤ length line.now) × (start + length line.now < 2 ^ 64) }
-    ensures { span_told result ≡ span_found (sign_of (start + at) (drop at line.now)) }
-{
-    match token(line, at, start) {
-        Token::Field(bytes, place) => Some(Part { bytes, place }),
-        Token::Command(bytes, place) => Some(Part { bytes, place }),
-        Token::Comment => None,
-        Token::LineEnd => None,
-    }
-}
+    ghost next_gives = { YieldsFirstBy span_of (λ s. fields (span_of s.rest)) };
 
-// Puts a field at its place, where there is one.
-fn keep<'a>(all: &mut [Part<'a>], count: usize, x: Part<'a>)
-    ensures { all.new ≡ slice_set all.old count x.entry }
-{
-    if count < all.len() {
-        all[count] = x;
-    }
-}
+    ghost remaining = { item_count (λ s. fields (span_of s.rest)) };
 
-/// The number of fields of a line that stands at `start` in the text; the first of them are put into `all`.
-pub fn split_fields<'a>(line: &'a [u8], start: usize, all: &mut [Part<'a>]) -> usize
-    requires { start + length line.now < 2 ^ 64 }
-    ensures count { result ≡ length (fields_from start [] line.now) }
-    ensures all { take result (map span_of all.new) ≡ take (length all.old) (fields_from start [] line.now) }
-{
-    let mut count: usize = 0;
-    let mut at: usize = 0;
-    while let Some(x) = next_field(line, at, start) {
-        keep(all, count, x);
-        count += 1;
-        at = x.place - start + x.bytes.len();
+    fn next(&mut self) -> Option<Part<'a>> {
+        self.next_token().part()
     }
-    count
 }

@@ -1,94 +1,47 @@
 // What a line means.
-ghost use Rattle.std.specs.Prelude.{◌≡◌, ◌+◌, ◌^◌, ◌<◌, [], map, length};
-ghost use Rattle.svx_line.specs.Spans.{fields_from};
-ghost use Rattle.svx_line.specs.Tokens.{span_of};
-ghost use Rattle.svx_line.specs.Verdicts.{reads as reads_word, data_normal, five_verdict, leg_verdict, command_verdict, verdict};
-ghost use Rattle.svx_line.specs.Told.{offer_told, line_told};
+ghost use Rattle.std.specs.Prelude.{◌≡◌, map, length};
+ghost use Rattle.std.specs.List.{list_all, zip};
+ghost use Rattle.std.specs.Str.{bytes_eq};
+ghost use Rattle.svx_line.specs.Spans.{fields};
+ghost use Rattle.svx_line.specs.Parts.{span_of};
+ghost use Rattle.svx_line.specs.Verdicts.{data_normal, leg_verdict, command_verdict, verdict};
+ghost use Rattle.svx_line.specs.Told.{line_told};
 
-use crate::lexer::{split_fields, token};
+use crate::fields::Fields;
+use crate::lexer::Lexer;
 use crate::offer::{Flaw, Offer};
-use crate::token::{Part, Token};
+use crate::part::Part;
+use crate::token::Token;
 use refusal::Refusal;
 use survey::leg::Leg;
 use svx_fields::{compass, reading, station};
 
-// Field i is this word.
-fn reads(all: &[Part], i: usize, word: &[u8]) -> bool
-    requires { i < length all.now }
-    ensures { result ≡ reads_word (map span_of all.now) i word.now }
+// Each field is the word at its place.
+fn all_read(fields: &[Part], words: &[&[u8]]) -> bool
+    ensures { result ≡ list_all (λ p. bytes_eq p.0.bytes.now p.1.now) (zip fields.now words.now) }
 {
-    all[i].bytes == word
+    fields
+        .iter()
+        .zip(words)
+        .all(|(field, word)| field.bytes == *word)
 }
 
 // The seven fields are the words of the one known command.
-fn is_data_normal(all: &[Part]) -> bool
-    requires { length all.now ≡ 7 }
-    ensures { result ≡ data_normal (map span_of all.now) }
+fn is_data_normal(fields: &[Part]) -> bool
+    requires { length fields.now ≡ 7 }
+    ensures { result ≡ data_normal (map span_of fields.now) }
 {
-    reads(all, 0, b"*data")
-        & (reads(all, 1, b"normal")
-            & (reads(all, 2, b"from")
-                & (reads(all, 3, b"to")
-                    & (reads(all, 4, b"tape")
-                        & (reads(all, 5, b"compass") & reads(all, 6, b"clino"))))))
-}
-
-fn bad_station(place: usize) -> Flaw
-    ensures { result ≡ record { cause = Refusal.BadStation; place = place } }
-{
-    Flaw {
-        cause: Refusal::BadStation,
-        place,
-    }
-}
-
-fn bad_reading(place: usize) -> Flaw
-    ensures { result ≡ record { cause = Refusal.BadReading; place = place } }
-{
-    Flaw {
-        cause: Refusal::BadReading,
-        place,
-    }
-}
-
-// The leg of five fields, checked from left to right.
-fn five<'a>(f: Part<'a>, t: Part<'a>, a: Part<'a>, c: Part<'a>, k: Part<'a>) -> Result<Offer, Flaw>
-    ensures { offer_told result ≡ five_verdict (span_of f.entry) (span_of t.entry) (span_of a.entry) (span_of c.entry) (span_of k.entry) }
-{
-    let Some(from) = station(f.bytes) else {
-        return Err(bad_station(f.place));
-    };
-    let Some(to) = station(t.bytes) else {
-        return Err(bad_station(t.place));
-    };
-    if !reading(a.bytes) {
-        return Err(bad_reading(a.place));
-    }
-    let Some(bearing) = compass(c.bytes) else {
-        return Err(bad_reading(c.place));
-    };
-    if !reading(k.bytes) {
-        return Err(bad_reading(k.place));
-    }
-    Ok(Offer {
-        place: f.place,
-        leg: Leg {
-            from,
-            to,
-            bearing,
-            weight: 1,
-            wet: 0,
-            limit: 999,
-        },
-    })
+    let words: [&[u8]; 7] = [
+        b"*data", b"normal", b"from", b"to", b"tape", b"compass", b"clino",
+    ];
+    all_read(fields, &words)
 }
 
 // A line that starts with a star.
-fn command(all: &[Part], count: usize, place: usize) -> Result<Option<Offer>, Flaw>
-    requires { length all.now ≡ 7 }
-    ensures { line_told result ≡ command_verdict (map span_of all.now) count place }
+fn command(fields: &Fields, place: usize) -> Result<Option<Offer>, Flaw>
+    ensures { line_told result ≡ command_verdict (map span_of fields.now.first.items) fields.now.count place }
 {
-    if count == 7 && is_data_normal(all) {
+    if fields.count == 7 && is_data_normal(&fields.first) {
         Ok(None)
     } else {
         Err(Flaw {
@@ -98,38 +51,56 @@ fn command(all: &[Part], count: usize, place: usize) -> Result<Option<Offer>, Fl
     }
 }
 
-// A line that starts with no star.
-fn leg(all: &[Part], count: usize, place: usize) -> Result<Option<Offer>, Flaw>
-    requires { length all.now ≡ 7 }
-    ensures { line_told result ≡ leg_verdict (map span_of all.now) count place }
+// A field that is malformed.
+fn malformed(field: &Part, cause: Refusal) -> Flaw
+    ensures { result ≡ record { cause = cause; place = field.now.place } }
 {
-    if count != 5 {
-        return Err(Flaw {
-            cause: Refusal::FieldCount(count),
-            place,
-        });
-    }
-    match five(all[0], all[1], all[2], all[3], all[4]) {
-        Ok(offer) => Ok(Some(offer)),
-        Err(flaw) => Err(flaw),
+    Flaw {
+        cause,
+        place: field.place,
     }
 }
 
-/// What a line that stands at `start` in the text means: the leg it offers, if any, or what is wrong with it.
-pub fn judge<'a>(line: &'a [u8], start: usize) -> Result<Option<Offer>, Flaw>
-    requires { start + length line.now < 2 ^ 64 }
-    ensures { line_told result ≡ verdict (fields_from start [] line.now) }
+// A line that starts with no star: from, to, tape, compass and clino, checked from left to right.
+fn leg(fields: &Fields, place: usize) -> Result<Option<Offer>, Flaw>
+    ensures { line_told result ≡ leg_verdict (map span_of fields.now.first.items) fields.now.count place }
 {
-    let none = Part {
-        bytes: &line[0..0],
-        place: start,
+    let [from, to, tape, direction, clino] = fields.first.as_slice() else {
+        return Err(Flaw {
+            cause: Refusal::FieldCount(fields.count),
+            place,
+        });
     };
-    let mut all = [none; 7];
-    let count = split_fields(line, start, &mut all);
-    match token(line, 0, start) {
-        Token::Comment => Ok(None),
-        Token::LineEnd => Ok(None),
-        Token::Command(_, place) => command(&all, count, place),
-        Token::Field(_, place) => leg(&all, count, place),
+    let from_station = station(from.bytes).ok_or(malformed(from, Refusal::BadStation))?;
+    let to_station = station(to.bytes).ok_or(malformed(to, Refusal::BadStation))?;
+    if !reading(tape.bytes) {
+        return Err(malformed(tape, Refusal::BadReading));
+    }
+    let bearing = compass(direction.bytes).ok_or(malformed(direction, Refusal::BadReading))?;
+    if !reading(clino.bytes) {
+        return Err(malformed(clino, Refusal::BadReading));
+    }
+    Ok(Some(Offer {
+        place: from.place,
+        leg: Leg {
+            from: from_station,
+            to: to_station,
+            bearing,
+            weight: 1,
+            wet: 0,
+            limit: 999,
+        },
+    }))
+}
+
+/// What a line of the text means: the leg it offers, if any, or what is wrong with it.
+pub fn judge<'a>(line: Part<'a>) -> Result<Option<Offer>, Flaw>
+    ensures { line_told result ≡ verdict (fields (span_of line.entry)) }
+{
+    let fields = Fields::new(line);
+    match Lexer::new(line).next_token() {
+        Token::Comment | Token::LineEnd => Ok(None),
+        Token::Command(first) => command(&fields, first.place),
+        Token::Field(first) => leg(&fields, first.place),
     }
 }

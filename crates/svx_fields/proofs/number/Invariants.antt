@@ -1,7 +1,7 @@
--- n is the number of the digits before the index, and the rest are digits.
-use Rattle.std.proofs.Common.{◌≡◌, ◌^◌, ◌<◌, true, drop}
-use Rattle.svx_fields.specs.Fields.{all_digits, number, number_after}
+-- n is the number of the digits so far.
+use Rattle.std.proofs.Common.{◌≡◌, ◌^◌, ◌<◌, take}
+use Rattle.svx_fields.specs.Fields.{number}
 use Rattle.svx_fields.proofs.number.Given as goal
 
 abbrev pub invariant-loop-b : goal.invariant-loop-b
-invariant-loop-b l = (number_after l.n (drop l.b-index l.s) ≡ number l.s) × (all_digits (drop l.b-index l.s) ≡ true) × (l.n < 10 ^ l.b-index)
+invariant-loop-b l = record { is : l.n ≡ number (take l.b-index l.s); small : l.n < 10 ^ l.b-index }

@@ -1,18 +1,15 @@
 -- The verdict by the line's first token.
-use Rattle.std.proofs.Common.{sym, ap, arith}
-use Rattle.svx_line.specs.Tokens.{comment, end}
-use Rattle.svx_line.specs.Verdicts.{verdict}
-use Rattle.svx_line.proofs.Judging.{front, judge_command, judge_leg}
+use Rattle.std.proofs.Common.{ap, ⊎_elim, inl, inr}
+use Rattle.svx_line.specs.Parts.{span_of}
+use Rattle.svx_line.specs.Tokens.{sign}
+use Rattle.svx_line.proofs.Judging.{of_command, of_word, of_none}
 use Rattle.svx_line.proofs.line.judge.Goals as goal
 
 pub returns-in-Comment : goal.returns-in-Comment
-returns-in-Comment c = sym (ap verdict (front comment c.args.start c.args.line.now c.in-Comment.ensures).tells)
-
-pub returns-in-LineEnd : goal.returns-in-LineEnd
-returns-in-LineEnd c = sym (ap verdict (front end c.args.start c.args.line.now c.in-LineEnd.ensures).tells)
+returns-in-Comment c = of_none (sign c.next_token.result) _ _ (⊎_elim (λ e. inl (ap sign e)) (λ e. inr (ap sign e)) c.in-Comment.is) c.next_token.ensures.token c.new.ensures
 
 pub returns-in-Command : goal.returns-in-Command
-returns-in-Command c = judge_command c.args.start c.args.line.now c.in-Command.field-0.now c.in-Command.place c.split_fields-count.new.all c.split_fields-count.result _ c.in-Command.ensures (omega arith) c.split_fields-count.ensures.count c.split_fields-count.ensures.all c.command.ensures
+returns-in-Command c = of_command (span_of c.in-Command.first) _ _ _ _ _ c.in-Command.ensures.token c.new.ensures c.new-fields.ensures.first c.new-fields.ensures.count c.command.ensures
 
 pub returns-in-Field : goal.returns-in-Field
-returns-in-Field c = judge_leg c.args.start c.args.line.now c.in-Field.field-0.now c.in-Field.place c.split_fields-count.new.all c.split_fields-count.result _ c.in-Field.ensures c.split_fields-count.ensures.count c.split_fields-count.ensures.all c.leg.ensures
+returns-in-Field c = of_word (span_of c.in-Field.first) _ _ _ _ _ c.in-Field.ensures.token c.new.ensures c.new-fields.ensures.first c.new-fields.ensures.count c.leg.ensures
