@@ -3,3 +3,4 @@ pub mod Moves
 pub mod Paths
 pub mod Networks
 pub mod Sides
+pub mod Priced

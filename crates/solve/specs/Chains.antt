@@ -1,5 +1,5 @@
 -- Units sent over a side, and along a chain of open sides back to a root.
-use Rattle.std.specs.Prelude.{◌≡◌, ℕ, zero, suc, ◌+◌, ◌-◌, ◌<◌, true, cond, ◌⊎◌, List, length, ◌==◌, ◌≢◌, nat_lt, slice_set}
+use Rattle.std.specs.Prelude.{◌≡◌, ℕ, zero, suc, ◌+◌, ◌-◌, ◌<◌, true, cond, List, length, ◌==◌, ◌≢◌, nat_lt, slice_set}
 use Rattle.price.specs.Laws.{Ops}
 use Rattle.duality.specs.Sums.{sum}
 use Rattle.duality.specs.Flows.{into, out_of, Fits}
@@ -8,7 +8,7 @@ use Rattle.search.specs.declared.Side.{Side}
 use Rattle.search.specs.Labels.{label_at, reached}
 use Rattle.search.specs.Paths.{Safe}
 use Rattle.search.specs.Networks.{twin, units, Network, cost_by, move, Open}
-use Rattle.search.specs.Sides.{side_at}
+use Rattle.search.specs.Sides.{side_at, CanOpen}
 use Rattle.solve.specs.Solutions.{arcs, OneWay, Leaves}
 
 -- one unit over side s: it takes back one that came the other way, or else adds one
@@ -61,7 +61,7 @@ Seeded ops gives labels = (v : ℕ) → ((label_at ops labels v).price ≡ ops.z
 
 -- `side v` is the side by whose end the label of v came, among those that can ever be open
 abbrev pub Indexed : {P : Type 0} → List Side → (ℕ → ℕ) → (ℕ → Label P) → Type 0
-Indexed sides side label = (s : ℕ) → s < length sides → (0 < (side_at sides s).room) ⊎ (0 < (side_at sides (twin s)).room) → (label (side_at sides s).node).end ≡ (side_at sides s).end → side (side_at sides s).node ≡ s
+Indexed sides side label = (s : ℕ) → s < length sides → CanOpen sides s → (label (side_at sides s).node).end ≡ (side_at sides s).end → side (side_at sides s).node ≡ s
 
 -- a flow on its way to a least one: within the rooms, one_way, and with a potential
 pub record Underway {P : Type 0} (ops : Ops P) (n : ℕ) (w : Network P) (f : ℕ → ℕ) : Type 0 where

@@ -1,10 +1,9 @@
 -- What a least flow over paired sides is, and when there is none.
-use Rattle.std.specs.Prelude.{◌≡◌, ℕ, ◌+◌, ◌<◌, true, cond, nat_lt}
+use Rattle.std.specs.Prelude.{◌≡◌, ℕ, ◌+◌, ◌<◌, true, Option, Some, None, Result, Ok, Err, ⊤}
 use Rattle.price.specs.Laws.{Ops}
 use Rattle.duality.specs.Flows.{Net, into, out_of, Fits, Meets, price_of}
 use Rattle.search.specs.Networks.{twin, Network}
-use Rattle.solve.specs.declared.Outcome.{Outcome}
-use Rattle.solve.specs.declared.Outcome.TheVariants.{Least, Infeasible}
+use Rattle.solve.specs.declared.Infeasible.{Infeasible}
 
 -- the sides as arcs between n nodes: side s leads from the node of its twin to its own
 abbrev pub arcs : {P : Type 0} → ℕ → Network P → Net
@@ -27,14 +26,15 @@ abbrev pub NoFlow : {P : Type 0} → ℕ → Network P → (ℕ → ℕ) → (�
 NoFlow n w p q = (f' : ℕ → ℕ) → Fits (arcs n w) f' → Meets (arcs n w) p q f' → ⊥
 
 -- what an outcome says of the flow f
-abbrev pub Answered : {P : Type 0} → Ops P → ℕ → Network P → (p q f : ℕ → ℕ) → Outcome → Type 0
-Answered ops n w p q f Least = Best ops n w p q f
-Answered ops n w p q f Infeasible = NoFlow n w p q
+abbrev pub Answered : {P : Type 0} → Ops P → ℕ → Network P → (p q f : ℕ → ℕ) → Result ⊤ Infeasible → Type 0
+Answered ops n w p q f (Ok done) = Best ops n w p q f
+Answered ops n w p q f (Err e) = NoFlow n w p q
 
 -- of the demands p and q, f leaves `short` wanted and `over` ungiven
 abbrev pub Leaves : {P : Type 0} → ℕ → Network P → (p q short over f : ℕ → ℕ) → Type 0
 Leaves n w p q short over f = (v : ℕ) → v < n → into (arcs n w) f v + q v + short v ≡ out_of (arcs n w) f v + p v + over v
 
--- the outcome where nothing is left to give: least, unless a node below n still wants a unit; `first` is the first that does
-abbrev pub judged : (first n : ℕ) → Outcome
-judged first n = cond (nat_lt first n) Infeasible Least
+-- the outcome where nothing is left to give: least, unless a node still wants a unit; `unmet` is the first that does
+abbrev pub judged : (unmet : Option ℕ) → Result ⊤ Infeasible
+judged None = Ok tt
+judged (Some v) = Err (record {})

@@ -7,54 +7,54 @@ use Rattle.search.specs.Labels.{label_at, blank}
 use Rattle.search.specs.Networks.{units}
 use Rattle.search.proofs.Sweep.{at_set, front_at}
 use Rattle.solve.proofs.seed.Goals as goal
-use Rattle.solve.proofs.seed.Goals.{then-gives-i-gt0, else-gives-i-gt0}
+use Rattle.solve.proofs.seed.Goals.{then-units-gt0, else-units-gt0}
 
-pub loop-i-preserved : goal.loop-i-preserved
-loop-i-preserved g c =
+pub loop-node-preserved : goal.loop-node-preserved
+loop-node-preserved g c =
     let o = g.P.Price.ops in
     let gives = c.args.gives.now in
-    let old = c.loop-i.labels.places.now in
-    let new : Label g.row.P.Denot = record { price = c.zero.result; end = c.if-gives-i-gt0.end } in
-    let end : c.if-gives-i-gt0.end ≡ cond (ltb 0 (units gives c.loop-i.i)) 65534 65535 =
-    elim c.if-gives-i-gt0.branch [
-      | then-gives-i-gt0 w ↦ w.end-is ∙ sym (cond-true _ _ _ (lt-ltb 0 _ w.if-gives-i-gt0.true))
-      | else-gives-i-gt0 w ↦ w.end-is ∙ sym (cond-false _ _ _ (le-ltb 0 _ w.if-gives-i-gt0.false))
+    let old = c.loop-node.labels.places.now in
+    let new : Label g.row.P.Denot = record { price = c.none.result.price; end = c.if-units-gt0.end } in
+    let end : c.if-units-gt0.end ≡ cond (ltb 0 (units gives c.loop-node.node)) 65534 65535 =
+    elim c.if-units-gt0.branch [
+      | then-units-gt0 w ↦ w.end-is ∙ sym (cond-true _ _ _ (lt-ltb 0 _ w.if-units-gt0.true))
+      | else-units-gt0 w ↦ w.end-is ∙ sym (cond-false _ _ _ (le-ltb 0 _ w.if-units-gt0.false))
     ] in
     let put = c.set_label.ensures.places in (
       λ k h. subst (λ (ls : List (Label g.row.P.Denot)). ((label_at o ls k).price ≡ o.zero) × ((label_at o ls k).end ≡ cond (ltb 0 (units gives k)) 65534 65535)) (sym put)
           (⊎_elim
           (λ e. (
-            ap (λ (m : Label g.row.P.Denot). m.price) e.1 ∙ c.zero.ensures,
+            ap (λ (m : Label g.row.P.Denot). m.price) e.1 ∙ ap (λ (m : Label g.row.P.Denot). m.price) c.none.ensures,
             ap (λ (m : Label g.row.P.Denot). m.end) e.1 ∙ end ∙ ap (λ z. cond (ltb 0 (units gives z)) 65534 65535) (sym e.0),
           ))
           (λ e.
           let ne = e.0 in
-          let was = c.loop-i.invariant.0 k (omega arith) in
+          let was = c.loop-node.invariant.0 k (omega arith) in
           (ap (λ (m : Label g.row.P.Denot). m.price) e.1 ∙ was.0, ap (λ (m : Label g.row.P.Denot). m.end) e.1 ∙ was.1))
-          (at_set old c.loop-i.i k new (blank o) (omega (arith, c.loop-i.invariant.2, c.loop-i-test.true, c.requires.1)))),
-      c.set_label.ensures.used ∙ c.loop-i.invariant.1,
-      ap length put ∙ length-set old c.loop-i.i new ∙ c.loop-i.invariant.2,
-      c.set_label.ensures.lender ∙ c.loop-i.invariant.3,
+          (at_set old c.loop-node.node k new (blank o) (omega (arith, c.loop-node.invariant.2, c.loop-node-test.true, c.requires.1)))),
+      c.set_label.ensures.used ∙ c.loop-node.invariant.1,
+      ap length put ∙ length-set old c.loop-node.node new ∙ c.loop-node.invariant.2,
+      c.set_label.ensures.lender ∙ c.loop-node.invariant.3,
     )
 
 pub returns : goal.returns
 returns g c =
     let o = g.P.Price.ops in
     let n = length c.args.gives.now in
-    let places = c.loop-i.labels.places.now in
+    let places = c.loop-node.labels.places.now in
     record {
       seeded = λ v.
           ⊎_elim
           (λ b.
           let e = front_at o n places v b in
-          let was = c.loop-i.invariant.0 v (omega (arith, c.loop-i-test.false)) in
+          let was = c.loop-node.invariant.0 v (omega (arith, c.loop-node-test.false)) in
           (ap (λ (m : Label g.row.P.Denot). m.price) e ∙ was.0, ap (λ (m : Label g.row.P.Denot). m.end) e ∙ was.1))
           (λ b.
-          let e : label_at o (take n places) v ≡ blank o = get_or_past (take n places) v (blank o) (omega (arith, length-take-le n places (omega (arith, c.loop-i.invariant.2, c.requires.1)))) in
+          let e : label_at o (take n places) v ≡ blank o = get_or_past (take n places) v (blank o) (omega (arith, length-take-le n places (omega (arith, c.loop-node.invariant.2, c.requires.1)))) in
           let z : units c.args.gives.now v ≡ 0 = get_or_past c.args.gives.now v 0 b in
           (ap (λ (m : Label g.row.P.Denot). m.price) e, ap (λ (m : Label g.row.P.Denot). m.end) e ∙ sym (cond-false _ _ _ (le-ltb 0 (units c.args.gives.now v) (omega arith)))))
           (cases_lt v n);
-      used = c.loop-i.invariant.1;
-      long = c.loop-i.invariant.2;
-      lender = c.loop-i.invariant.3;
+      used = c.loop-node.invariant.1;
+      long = c.loop-node.invariant.2;
+      lender = c.loop-node.invariant.3;
     }

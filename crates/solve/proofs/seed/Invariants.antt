@@ -4,9 +4,9 @@ use Rattle.search.specs.Labels.{label_at}
 use Rattle.search.specs.Networks.{units}
 use Rattle.solve.proofs.seed.Given as goal
 
-abbrev pub invariant-loop-i : goal.invariant-loop-i
-invariant-loop-i g l =
-    ((k : ℕ) → k < l.i → ((label_at g.P.Price.ops l.labels.places.now k).price ≡ g.P.Price.ops.zero) × ((label_at g.P.Price.ops l.labels.places.now k).end ≡ cond (ltb 0 (units l.gives k)) 65534 65535))
+abbrev pub invariant-loop-node : goal.invariant-loop-node
+invariant-loop-node g l =
+    ((k : ℕ) → k < l.node → ((label_at g.P.Price.ops l.labels.places.now k).price ≡ g.P.Price.ops.zero) × ((label_at g.P.Price.ops l.labels.places.now k).end ≡ cond (ltb 0 (units l.gives k)) 65534 65535))
     × (l.labels.used ≡ l.initial.labels.used)
     × (length l.labels.places.now ≡ length l.initial.labels.places.now)
     × (l.labels.places.ghost_name ≡ l.initial.labels.places.ghost_name)

@@ -1,89 +1,82 @@
 -- Nothing is shipped at first; each search ships a unit or shows that there is no flow; at the end the flow is least, or the demands do not add up.
-use Rattle.std.proofs.Common.{◌≡◌, ℕ, ◌<◌, ltb, length, sym, refl, ◌∙◌, subst, arith, ltb-false, ltb-true}
-use Rattle.std.proofs.lemmas.Bool.{cond_both}
-use Rattle.search.specs.Networks.{units}
-use Rattle.search.specs.Sides.{network}
-use Rattle.search.proofs.Residual.{sound}
-use Rattle.solve.specs.declared.Outcome.TheVariants.{Least, Infeasible}
-use Rattle.solve.specs.Solutions.{Answered, Leaves, NoFlow}
-use Rattle.solve.specs.Chains.{Underway}
+use Rattle.std.proofs.Common.{◌≡◌, ℕ, ◌<◌, List, length, replicate, Option, Some, None, Result, Ok, Err, rules, sym, refl, ap, ◌∙◌, subst, ⊎_elim, arith}
+use Rattle.std.specs.Prelude.{⊤}
+use Rattle.std.specs.Result.{IsErr}
+use Rattle.std.proofs.lemmas.List.{get_or-replicate, get_or_past, length-replicate}
+use Rattle.std.proofs.lemmas.Bool.{cases_lt}
+use Rattle.price.specs.Laws.{Ops}
+use Rattle.search.specs.Networks.{Network, units}
+use Rattle.search.specs.Priced.{priced}
+use Rattle.search.proofs.Keys.{key}
+use Rattle.solve.specs.declared.Infeasible.{Infeasible}
+use Rattle.solve.specs.Solutions.{Best, NoFlow, Answered, judged}
+use Rattle.solve.proofs.Held.{net_sound, none_held}
 use Rattle.solve.proofs.Progress.{underway_start, leaves_start, met, unmet}
 use Rattle.solve.proofs.solve.Goals as goal
+
+-- no units anywhere, on the sides or past them
+none_filled : (flow xs : List ℕ) → flow ≡ replicate (length xs) 0 → (s : ℕ) → units flow s ≡ 0
+none_filled flow xs e s =
+    ap (λ ys. units ys s) e ∙ ⊎_elim (λ b. get_or-replicate (length xs) s 0 0 b) (λ b. get_or_past (replicate (length xs) 0) s 0 (omega (arith, length-replicate {A = ℕ}))) (cases_lt s (length xs))
+
+-- the outcome is what the first node that wants a unit says
+answered_by : {P : Type 0} {ops : Ops P} {n : ℕ} {w : Network P} {p q f : ℕ → ℕ} (unmet : Option ℕ) (r : Result ⊤ Infeasible) → r ≡ judged unmet → ((v : ℕ) → unmet ≡ Some v → NoFlow n w p q) → (unmet ≡ None → Best ops n w p q f) → Answered ops n w p q f r
+answered_by {ops = ops} {n} {w} {p} {q} {f} None r e some none = subst (Answered ops n w p q f) (sym e) (none refl)
+answered_by {ops = ops} {n} {w} {p} {q} {f} (Some v) r e some none = subst (Answered ops n w p q f) (sym e) (some v refl)
+
+-- an error says that there is no flow
+stuck_out : {P : Type 0} (ops : Ops P) (n : ℕ) (w : Network P) (p q f : ℕ → ℕ) (r : Result ⊤ Infeasible) → IsErr r → NoFlow n w p q → Answered ops n w p q f r
+stuck_out ops n w p q f (Ok done) e none = absurd (search rules)
+stuck_out ops n w p q f (Err e) is none = none
 
 pub loop-came_by-init : goal.loop-came_by-init
 loop-came_by-init g c =
     let o = g.T.Price.Price.ops in
     let L = g.met.T.Price.Price.laws in
-    let t = c.args.tariff.now in
-    let n = length c.args.wants.now in
-    let sides = c.args.sides.now in
-    let pr = c.requires.proper in
-    let w = network o (g.T.Tariff.rate t) sides in
-    let sd = sound L n (g.T.Tariff.rate t) sides pr (g.met.T.Tariff.low t) (g.met.T.Tariff.small t) pr.keyed.0 pr.keyed.1 in
-    let f = units c.clear.new.flow in (
-      underway_start L n w pr.keyed.0 sd f c.clear.ensures,
-      leaves_start L n w pr.keyed.0 sd (units c.args.wants.now) (units c.args.gives.now) f c.clear.ensures,
-      refl,
-      c.make_labels.ensures.used,
-      refl,
-      refl,
-    )
-
-pub returns-then-not-advance : goal.returns-then-not-advance
-returns-then-not-advance g c =
-    let w = network g.T.Price.Price.ops (g.T.Tariff.rate c.args.tariff.now) c.args.sides.now in
-    let P = units c.args.wants.now in
-    let Q = units c.args.gives.now in
-    let same = c.loop-came_by.auto.wants in
-    let en = c.advance.ensures in
-    let left = subst (λ k. Leaves k w P Q (units c.loop-came_by.wants) (units c.loop-came_by.gives) (units c.loop-came_by.flow)) (sym same) c.loop-came_by.invariant.1 in
+    let n = c.args.network.now.nodes in
+    let sides = c.args.network.now.sides.now in
+    let w = priced o g.T.Tariff.rate c.args.network.now in
+    let sd = net_sound L g.T.Tariff.rate g.met.T.Tariff.low g.met.T.Tariff.small c.args.network.now in
+    let f = units c.fill.new.self in
+    let none = none_filled c.fill.new.self c.args.flow.now (c.fill.ensures.after (search rules)) in
     record {
-      answered = subst (λ k. NoFlow k w P Q) same (en.stuck c.if-not-advance.true P Q left);
-      leaves = subst (λ k. Leaves k w P Q (units c.advance.new.wants) (units c.advance.new.gives) (units c.advance.new.flow)) same (en.onward P Q left);
-      long = en.long ∙ c.loop-came_by.invariant.4 ∙ c.make_labels.ensures.long;
-      lender = en.lender ∙ c.loop-came_by.invariant.5 ∙ c.make_labels.ensures.lender;
+      underway = underway_start L n w (key sides) sd f none;
+      leaves = leaves_start L n w (key sides) sd (units c.args.wants.now) (units c.args.gives.now) f none;
+      used = c.make_labels.ensures.used;
+      long = refl;
+      lender = refl;
     }
 
 pub loop-came_by-preserved : goal.loop-came_by-preserved
-loop-came_by-preserved g c =
-    let o = g.T.Price.Price.ops in
-    let w = network o (g.T.Tariff.rate c.args.tariff.now) c.args.sides.now in
-    let P = units c.args.wants.now in
-    let Q = units c.args.gives.now in
-    let same = c.loop-came_by.auto.wants in
-    let en = c.advance.ensures in
-    let left = subst (λ k. Leaves k w P Q (units c.loop-came_by.wants) (units c.loop-came_by.gives) (units c.loop-came_by.flow)) (sym same) c.loop-came_by.invariant.1 in (
-      subst (λ k. Underway o k w (units c.advance.new.flow)) same en.underway,
-      subst (λ k. Leaves k w P Q (units c.advance.new.wants) (units c.advance.new.gives) (units c.advance.new.flow)) same (en.onward P Q left),
-      c.advance.auto.came_by ∙ c.loop-came_by.invariant.2,
-      omega (arith, en.used, c.loop-came_by.invariant.3),
-      en.long ∙ c.loop-came_by.invariant.4,
-      en.lender ∙ c.loop-came_by.invariant.5,
-    )
+loop-came_by-preserved g c = record {
+  underway = c.advance.ensures.underway;
+  leaves = c.advance.ensures.onward _ _ c.loop-came_by.invariant.leaves;
+  used = omega (arith, c.advance.ensures.used, c.loop-came_by.invariant.used);
+  long = c.advance.ensures.long ∙ c.loop-came_by.invariant.long;
+  lender = c.advance.ensures.lender ∙ c.loop-came_by.invariant.lender;
+}
 
-pub returns : goal.returns
-returns g c =
+pub returns-in_err-advance-clause-answered : goal.returns-in_err-advance-clause-answered
+returns-in_err-advance-clause-answered g c = stuck_out _ _ _ _ _ _ c.from_residual.result c.from_residual.ensures.0 (c.in_err-advance.ensures.stuck _ _ c.loop-came_by.invariant.leaves)
+
+pub returns-in_err-advance-clause-leaves : goal.returns-in_err-advance-clause-leaves
+returns-in_err-advance-clause-leaves g c = c.advance.ensures.onward _ _ c.loop-came_by.invariant.leaves
+
+pub returns-clause-answered : goal.returns-clause-answered
+returns-clause-answered g c =
     let o = g.T.Price.Price.ops in
     let L = g.met.T.Price.Price.laws in
-    let t = c.args.tariff.now in
-    let n = length c.args.wants.now in
-    let sides = c.args.sides.now in
-    let pr = c.requires.proper in
-    let w = network o (g.T.Tariff.rate t) sides in
-    let sd = sound L n (g.T.Tariff.rate t) sides pr (g.met.T.Tariff.low t) (g.met.T.Tariff.small t) pr.keyed.0 pr.keyed.1 in
+    let n = c.args.network.now.nodes in
+    let sides = c.args.network.now.sides.now in
+    let w = priced o g.T.Tariff.rate c.args.network.now in
+    let sd = net_sound L g.T.Tariff.rate g.met.T.Tariff.low g.met.T.Tariff.small c.args.network.now in
     let P = units c.args.wants.now in
     let Q = units c.args.gives.now in
+    let inv = c.loop-came_by.invariant in
     let short = units c.loop-came_by.wants in
     let over = units c.loop-came_by.gives in
     let f = units c.loop-came_by.flow in
-    let inv = c.loop-came_by.invariant in
-    let given : (v : ℕ) → v < n → over v ≡ 0 = λ v b. c.first.ensures.none v (omega (arith, c.loop-came_by-test.false)) in
-    record {
-      answered = subst (Answered o n w P Q f) (sym c.judge.ensures)
-          (cond_both (ltb c.first-2.result n) Infeasible Least (Answered o n w P Q f)
-          (λ h. let k = ltb-true _ _ h in unmet L n w pr.keyed.0 sd P Q short over f inv.1 given c.first-2.result k (c.first-2.ensures.some (omega (arith, c.loop-came_by.auto.wants))))
-          (λ h. let k = ltb-false _ _ h in met L n w pr.keyed.0 sd P Q short over f inv.0 inv.1 given (λ v b. c.first-2.ensures.none v (omega arith))));
-      leaves = inv.1;
-      long = inv.4 ∙ c.make_labels.ensures.long;
-      lender = inv.5 ∙ c.make_labels.ensures.lender;
-    }
+    let given : (v : ℕ) → v < n → over v ≡ 0 = λ v b. none_held c.first.result (sym c.is_some.ensures ∙ c.loop-came_by-test.false) c.first.ensures.none v (omega (arith, c.requires.inside.2, c.loop-came_by.auto.gives)) in
+    answered_by c.first-2.result c.judge.result c.judge.ensures
+    (λ v e. unmet L n w (key sides) sd P Q short over f inv.leaves given v (let b = rw e at c.first-2.ensures.bound in omega (arith, c.requires.inside.1, c.loop-came_by.auto.wants)) (rw e at c.first-2.ensures.some))
+    (λ e. met L n w (key sides) sd P Q short over f inv.underway inv.leaves given (λ v b. (rw e at c.first-2.ensures.none) v (omega (arith, c.requires.inside.1, c.loop-came_by.auto.wants))))
