@@ -90,14 +90,7 @@ fn draw_over<T: Tariff>(
     ensures long { length labels.new.places.now ≡ length labels.old.places.now }
     ensures lender { labels.new.places.ghost_name ≡ labels.old.places.ghost_name }
 {
-    match route(
-        plan.as_slice(),
-        plan.outer_end(),
-        tariff,
-        labels,
-        sides,
-        flow,
-    ) {
+    match route(&plan.cave(), plan.outer_end(), tariff, labels, sides, flow) {
         Outcome::Infeasible => Err(Refusal::NoShape),
         Outcome::Least => Ok(keep(plan, tariff, flow, drawing)),
     }

@@ -8,9 +8,9 @@ ghost use Rattle.draw.specs.Shapes.{bends as bends_of, NamesLarge, FirstShape};
 ghost use Rattle.draw.specs.Drawings.{drawing_legs, drawing_shape, drawing_state};
 
 use crate::drawings::Drawing;
+use embedding::cave::Cave;
 use refusal::Refusal;
 use rotation::count_stations;
-use rotation::ends::end_station;
 use survey::checks::query_leg;
 use survey::leg::Leg;
 
@@ -47,6 +47,15 @@ impl Drawing {
         ensures { result.now ≡ drawing_legs self.now }
     {
         &self.legs[0..self.count]
+    }
+
+    /// The legs, which a survey can hold.
+    pub fn cave(&self) -> Cave<'_>
+        ensures { result.legs.now ≡ drawing_legs self.now }
+    {
+        Cave {
+            legs: self.as_slice(),
+        }
     }
 
     /// The number of legs.
@@ -117,7 +126,7 @@ impl Drawing {
     pub fn stations(&self) -> usize
         ensures { result ≡ stations_of (drawing_legs self.now) }
     {
-        count_stations(self.as_slice())
+        count_stations(&self.cave())
     }
 
     /// The number of faces, which Euler's formula gives, as a plan is planar.
@@ -132,7 +141,7 @@ impl Drawing {
         ensures { NamesLarge (drawing_legs self.now) (drawing_shape self.now) station result }
     {
         for e in 0..2 * self.count {
-            if self.large[e] && end_station(self.as_slice(), e) == station {
+            if self.large[e] && self.cave().station(e) == station {
                 return Some(e);
             }
         }
