@@ -28,21 +28,21 @@ front_demands legs outer n wants gives q h = record {
 }
 
 pub slice_bounds-wants-end : goal.slice_bounds-wants-end
-slice_bounds-wants-end g c = let f = few_nodes c.args.legs.now c.requires.planar in let n = c.fill_network-nodes.ensures.nodes in omega arith
+slice_bounds-wants-end g c = let f = few_nodes c.args.cave.now.legs.now c.requires.planar in let n = c.fill_network-nodes.ensures.nodes in omega arith
 
 pub slice_bounds-gives-end : goal.slice_bounds-gives-end
-slice_bounds-gives-end g c = let f = few_nodes c.args.legs.now c.requires.planar in let n = c.fill_network-nodes.ensures.nodes in omega arith
+slice_bounds-gives-end g c = let f = few_nodes c.args.cave.now.legs.now c.requires.planar in let n = c.fill_network-nodes.ensures.nodes in omega arith
 
 pub solve-requires : goal.solve-requires
 solve-requires g c =
-    let legs = c.args.legs.now in
+    let legs = c.args.cave.now.legs.now in
     let few = few_nodes legs c.requires.planar in
-    let small = c.requires.few in
+    let small = c.args.cave.now.few in
     let n = c.fill_network-nodes.ensures.nodes in
     let w = front_long c.fill_network-nodes.new.wants c.fill_network-nodes.result (nodes legs) n (omega arith) in
     let v = front_long c.fill_network-nodes.new.gives c.fill_network-nodes.result (nodes legs) n (omega arith) in
     record {
-      proper = subst (λ (k : ℕ). Proper k c.fill_network-nodes.new.sides) (sym w) (proper legs c.requires.valid c.fill_network-nodes.new.sides c.fill_network-nodes.ensures.sides small);
+      proper = subst (λ (k : ℕ). Proper k c.fill_network-nodes.new.sides) (sym w) (proper legs c.args.cave.now.valid c.fill_network-nodes.new.sides c.fill_network-nodes.ensures.sides small);
       inside = (c.requires.flow ∙ sym c.fill_network-nodes.ensures.sides.count, v ∙ sym w, omega arith);
       labels = omega arith;
     }
@@ -50,11 +50,11 @@ solve-requires g c =
 pub returns : goal.returns
 returns g c =
     let o = g.T.Price.Price.ops in
-    let legs = c.args.legs.now in
+    let legs = c.args.cave.now.legs.now in
     let rate = g.T.Tariff.rate c.args.tariff.now in
     let outer = face legs c.args.outer in
     let few = few_nodes legs c.requires.planar in
-    let small = c.requires.few in
+    let small = c.args.cave.now.few in
     let n = c.fill_network-nodes.ensures.nodes in
     let sides = c.fill_network-nodes.new.sides in
     let P = units (take (c.fill_network-nodes.result - 0) c.fill_network-nodes.new.wants) in
@@ -62,7 +62,7 @@ returns g c =
     let w = front_long c.fill_network-nodes.new.wants c.fill_network-nodes.result (nodes legs) n (omega arith) in
     let held = front_demands legs outer c.fill_network-nodes.result c.fill_network-nodes.new.wants c.fill_network-nodes.new.gives n c.fill_network-nodes.ensures.demands in
     record {
-      routed = routed g.met.T.Price.Price.laws rate (g.met.T.Tariff.low c.args.tariff.now) legs outer sides P Q c.requires.valid c.requires.planar small c.fill_network-nodes.ensures.sides held (units c.solve.new.flow) c.solve.result
+      routed = routed g.met.T.Price.Price.laws rate (g.met.T.Tariff.low c.args.tariff.now) legs outer sides P Q c.args.cave.now.valid c.requires.planar small c.fill_network-nodes.ensures.sides held (units c.solve.new.flow) c.solve.result
           (subst (λ (k : ℕ). Answered o k (network o rate sides) P Q (units c.solve.new.flow) c.solve.result) w c.solve.ensures.answered);
       long = c.solve.ensures.long;
       lender = c.solve.ensures.lender;

@@ -7,16 +7,16 @@ use Rattle.draw.specs.Drawings.{drawing_legs, drawing_shape}
 use Rattle.draw.proofs.Held.{legs_count}
 use Rattle.draw.proofs.Large.{at_switch, only_large, no_switch}
 use Rattle.draw.proofs.drawings.Drawing.large_at.Goals as goal
-use Rattle.draw.proofs.drawings.Drawing.large_at.Goals.{else-self-e-via-then-self-e+else-end_station-station, else-self-e-via-else-self-e}
+use Rattle.draw.proofs.drawings.Drawing.large_at.Goals.{else-self-e-via-then-self-e+else-station, else-self-e-via-else-self-e}
 
-pub returns-then-end_station-station : goal.returns-then-end_station-station
-returns-then-end_station-station c =
+pub returns-then-station : goal.returns-then-station
+returns-then-station c =
     let d = c.args.self.now in
     let legs = drawing_legs d in
     let z = drawing_shape d in
     let e = c.loop-e.e in
     let n = legs_count d in
-    let s : station legs e ≡ c.args.station = sym (c.end_station.ensures ∙ ap (λ (xs : List Leg). station xs e) c.as_slice.ensures) ∙ c.if-end_station-station.true in
+    let s : station legs e ≡ c.args.station = sym (c.station.ensures.at ∙ ap (λ (xs : List Leg). station xs e) c.cave.ensures) ∙ c.if-station.true in
     let t = c.if-self-e.true in (
       omega arith,
       s,
@@ -30,7 +30,7 @@ loop-e-preserved c =
     let legs = drawing_legs c.args.self.now in
     below_more _ _ c.loop-e.invariant
     (elim c.else-self-e.branch [
-      | else-self-e-via-then-self-e+else-end_station-station w ↦ (λ s t. w.if-end_station-station.false (w.end_station.ensures ∙ ap (λ (xs : List Leg). station xs c.loop-e.e) w.as_slice.ensures ∙ s))
+      | else-self-e-via-then-self-e+else-station w ↦ (λ s t. w.if-station.false (w.station.ensures.at ∙ ap (λ (xs : List Leg). station xs c.loop-e.e) w.cave.ensures ∙ s))
       | else-self-e-via-else-self-e w ↦ (λ s t. both_ways _ w.if-self-e.false t)
     ])
 
