@@ -16,10 +16,6 @@ two_marked zero = refl
 two_marked (suc zero) = refl
 two_marked (suc (suc e)) = same_all false 510 e ∙ sym (le-ltb (suc (suc e)) 2 (omega arith))
 
--- what the new drawing has large
-abbrev pub first_large : List Bool
-first_large = set (set (replicate 512 false) 0 true) 1 true
-
 pub first_angles : (z : Shape) → z.large 0 ≡ true → z.large 1 ≡ true → (e : ℕ) → e < 2 → large_at (first_leg ∷ []) z e ≡ cond (switch (first_leg ∷ []) e) 1 0
 first_angles z p q zero l = rw p refl
 first_angles z p q (suc zero) l = rw q refl

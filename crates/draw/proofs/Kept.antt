@@ -7,7 +7,8 @@ use Rattle.survey.specs.Model.{valid_legs}
 use Rattle.network.proofs.Ranges.{limit_le}
 use Rattle.shape.specs.Shapes.{Shape, Valid, shape_price}
 use Rattle.shape.specs.Units.{units_shape}
-use Rattle.draw.specs.Tables.{shape_of}
+use Rattle.draw.specs.declared.bends.Bends.{Bends}
+use Rattle.draw.specs.Tables.{straight, doubled, shape_of}
 use Rattle.draw.specs.Shapes.{EndsThere, LeastShape}
 use Rattle.draw.specs.Routes.{MakesLeast}
 use Rattle.draw.proofs.Agree.{Agree, same_valid, same_price}
@@ -17,27 +18,32 @@ pub units_small : (legs : List Leg) (outer : ℕ) (f : ℕ → ℕ) → valid_le
 units_small legs outer f valid v i l = let b = v.bounded i l in let m = limit_le legs i valid l in (omega arith, omega arith)
 
 -- large angles and bends as they are filled in from the units f, where there are n legs
-pub record Filled (n : ℕ) (f : ℕ → ℕ) (z : Shape) : Type 0 where
-  pub large : (e : ℕ) → z.large e ≡ cond (ltb e (2 * n)) (ltb 0 (f (2 * n + 2 * e))) false
-  pub left : (i : ℕ) → z.left i ≡ cond (ltb i n) (2 * f (2 * i + 1)) 0
-  pub right : (i : ℕ) → z.right i ≡ cond (ltb i n) (2 * f (2 * i + 0)) 0
+pub record Filled (n : ℕ) (f : ℕ → ℕ) (large : List Bool) (bends : List Bends) : Type 0 where
+  pub large_at : (e : ℕ) → get_or large e false ≡ cond (ltb e (2 * n)) (ltb 0 (f (2 * n + 2 * e))) false
+  pub bends_at : (i : ℕ) → get_or bends i straight ≡ cond (ltb i n) (doubled (f (2 * i + 1)) (f (2 * i))) straight
 
-module _ (legs : List Leg) (n : ℕ) (all : n ≡ length legs) (f : ℕ → ℕ) (large : List Bool) (left right : List ℕ) (h : Filled n f (shape_of large left right)) where
-  pub agrees : Agree legs (units_shape legs f) (shape_of large left right)
+module _ (legs : List Leg) (n : ℕ) (all : n ≡ length legs) (f : ℕ → ℕ) (large : List Bool) (bends : List Bends) (h : Filled n f large bends) where
+  bent : (i : ℕ) → i < length legs → get_or bends i straight ≡ doubled (f (2 * i + 1)) (f (2 * i))
+  bent i l = h.bends_at i ∙ cond-true (ltb i n) (doubled (f (2 * i + 1)) (f (2 * i))) straight (lt-ltb i n (omega arith))
+
+  pub unbent : (i : ℕ) → length legs ≤ i → get_or bends i straight ≡ straight
+  unbent i l = h.bends_at i ∙ cond-false (ltb i n) (doubled (f (2 * i + 1)) (f (2 * i))) straight (le-ltb i n (omega arith))
+
+  pub agrees : Agree legs (units_shape legs f) (shape_of large bends)
   agrees = record {
-    large = λ e l. sym (h.large e ∙ cond-true (ltb e (2 * n)) (ltb 0 (f (2 * n + 2 * e))) false (lt-ltb e (2 * n) (omega arith)) ∙ ap (λ (m : ℕ). ltb 0 (f (2 * m + 2 * e))) all);
-    left = λ i l. sym (h.left i ∙ cond-true {A = ℕ} (ltb i n) (2 * f (2 * i + 1)) 0 (lt-ltb i n (omega arith)));
-    right = λ i l. let z : 2 * i + 0 ≡ 2 * i = omega arith in sym (h.right i ∙ cond-true {A = ℕ} (ltb i n) (2 * f (2 * i + 0)) 0 (lt-ltb i n (omega arith)) ∙ ap (λ (j : ℕ). 2 * f j) z);
+    large = λ e l. sym (h.large_at e ∙ cond-true (ltb e (2 * n)) (ltb 0 (f (2 * n + 2 * e))) false (lt-ltb e (2 * n) (omega arith)) ∙ ap (λ (m : ℕ). ltb 0 (f (2 * m + 2 * e))) all);
+    left = λ i l. sym (ap (λ (b : Bends). b.left) (bent i l));
+    right = λ i l. sym (ap (λ (b : Bends). b.right) (bent i l));
   }
 
-  pub ends_there : EndsThere legs (shape_of large left right)
+  pub ends_there : EndsThere legs (shape_of large bends)
   ends_there = record {
-    large = λ e l. h.large e ∙ cond-false (ltb e (2 * n)) (ltb 0 (f (2 * n + 2 * e))) false (le-ltb e (2 * n) (omega arith));
-    left = λ i l. h.left i ∙ cond-false {A = ℕ} (ltb i n) (2 * f (2 * i + 1)) 0 (le-ltb i n (omega arith));
-    right = λ i l. h.right i ∙ cond-false {A = ℕ} (ltb i n) (2 * f (2 * i + 0)) 0 (le-ltb i n (omega arith));
+    large = λ e l. h.large_at e ∙ cond-false (ltb e (2 * n)) (ltb 0 (f (2 * n + 2 * e))) false (le-ltb e (2 * n) (omega arith));
+    left = λ i l. ap (λ (b : Bends). b.left) (unbent i l);
+    right = λ i l. ap (λ (b : Bends). b.right) (unbent i l);
   }
 
-  pub bends_small : (outer : ℕ) → valid_legs legs ≡ true → Valid legs outer (units_shape legs f) → (i : ℕ) → i < length legs → get_or left i 0 + get_or right i 0 ≤ 4000
+  pub bends_small : (outer : ℕ) → valid_legs legs ≡ true → Valid legs outer (units_shape legs f) → (i : ℕ) → i < length legs → (get_or bends i straight).left + (get_or bends i straight).right ≤ 4000
   bends_small outer valid v i l =
       let s = units_small legs outer f valid v i l in
       let a = s.0 in
@@ -46,13 +52,13 @@ module _ (legs : List Leg) (n : ℕ) (all : n ≡ length legs) (f : ℕ → ℕ)
       let d = agrees.right i l in
       omega arith
 
-  pub tables_valid : (outer : ℕ) → Valid legs outer (units_shape legs f) → Valid legs outer (shape_of large left right)
-  tables_valid outer v = same_valid legs (units_shape legs f) (shape_of large left right) agrees outer v
+  pub tables_valid : (outer : ℕ) → Valid legs outer (units_shape legs f) → Valid legs outer (shape_of large bends)
+  tables_valid outer v = same_valid legs (units_shape legs f) (shape_of large bends) agrees outer v
 
   -- the shape in the tables is the one that the units make, at its price
-  pub least_shape : {P : Type 0} {ops : Ops P} → Laws ops → (rate : ℕ → ℕ → P) (outer : ℕ) (price : P) → MakesLeast ops rate legs outer f → price ≡ shape_price ops rate legs (shape_of [] left right) → LeastShape ops rate legs outer (shape_of large left right) price
+  pub least_shape : {P : Type 0} {ops : Ops P} → Laws ops → (rate : ℕ → ℕ → P) (outer : ℕ) (price : P) → MakesLeast ops rate legs outer f → price ≡ shape_price ops rate legs (shape_of [] bends) → LeastShape ops rate legs outer (shape_of large bends) price
   least_shape {P} {ops} L rate outer price m q =
-      let z = shape_of large left right in
+      let z = shape_of large bends in
       record {
         valid = tables_valid outer m.valid;
         costs = q;

@@ -1,7 +1,5 @@
 mod Agree
 mod First
-mod Held
 mod Kept
 mod Large
 mod Solved
-mod Written

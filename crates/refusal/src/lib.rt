@@ -1,8 +1,8 @@
 // The one table of refusals: every call of the library refuses with one of these causes.
 #![tactic(auto)]
 
-ghost use Rattle.std.specs.Prelude.{◌≡◌};
-ghost use Rattle.refusal.specs.Answers.{attribute_number, number_of, value_of};
+ghost use Rattle.std.specs.Prelude.{◌≡◌, [], ◌∷◌};
+ghost use Rattle.refusal.specs.Answers.{answers, attribute_number, number_of, value_of, told};
 
 use thiserror::Error;
 
@@ -165,5 +165,15 @@ impl Refusal {
             | Refusal::FieldCount(count)
             | Refusal::LongText(count) => *count,
         }
+    }
+}
+
+/// The number of an answer and the value returned with it; 0 and 0 where the call was accepted.
+pub fn number_and_value<T>(answer: &Result<T, Refusal>) -> (u32, usize)
+    ensures { told answer.now ≡ answers result.0 (result.1 ∷ []) }
+{
+    match answer {
+        Ok(_) => (0, 0),
+        Err(refusal) => (refusal.number(), refusal.value()),
     }
 }
