@@ -1,5 +1,6 @@
 -- The sides of a plan's network are proper: in pairs, few, within bounds, and told by node and end.
-use Rattle.std.proofs.Common.{◌≡◌, ℕ, ◌+◌, ◌-◌, ◌*◌, ◌/◌, ◌%◌, ◌<◌, ◌≤◌, Bool, true, false, cond, not, ◌&&◌, eqb, ltb, ◌⊎◌, List, length, sym, refl, ap, ◌∙◌, ⊎_elim, arith}
+use Rattle.std.proofs.Common.{◌≡◌, ℕ, ◌+◌, ◌-◌, ◌*◌, ◌/◌, ◌%◌, ◌<◌, ◌≤◌, Bool, true, false, cond, not, ◌&&◌, eqb, ltb, ◌⊎◌, List, length, Option, Some, sym, refl, ap, ◌∙◌, ⊎_elim, arith}
+use Rattle.std.specs.Option.{ForSome}
 use Rattle.std.proofs.lemmas.Bool.{cases_eq, cond-true, cond-false, cond_both, lt-ltb, le-ltb, ltb-false, eq-eqb, ne_eqb, and_from, and_left, and_right, not_from_true, not_from_false}
 use Rattle.survey.specs.declared.leg.Leg.{Leg}
 use Rattle.survey.specs.Ends.{ends, no_leg}
@@ -8,6 +9,7 @@ use Rattle.survey.proofs.Accepted.{in_range, not_met}
 use Rattle.survey.proofs.Valid.{valid_at}
 use Rattle.embedding.specs.Rotation.{twin, face, faces}
 use Rattle.embedding.proofs.Faces.{twin_lt, twin_twin}
+use Rattle.search.specs.declared.Bend.{Bend}
 use Rattle.search.specs.declared.Side.{Side}
 use Rattle.search.specs.Sides.{Proper}
 use Rattle.shape.specs.Shapes.{switch, leg_at}
@@ -33,6 +35,9 @@ first_of b c x y z p q = rw (p, q)
 
 second_of : (b c : Bool) (x y z : ℕ) → b ≡ true → c ≡ false → cond b (cond c x y) z ≡ y
 second_of b c x y z p q = rw (p, q)
+
+abbrev leg_bend : List Leg → ℕ → Option Bend
+leg_bend legs i = Some (record { weight = (leg_at legs i).weight; wet = (leg_at legs i).wet })
 
 -- a leg with one face on both sides has no room
 no_crossing : (legs : List Leg) (e : ℕ) → face legs e ≡ face legs (twin e) → crossing_room legs e ≡ 0
@@ -95,10 +100,10 @@ module _ (legs : List Leg) (valid : valid_legs legs ≡ true) where
         inside = each (λ a b s. a.node < nodes legs) face_node_node (λ e l. face_node_node (twin e) (twin_lt (length legs) e l))
             (λ e l. cond_both (switch legs e) _ _ (λ (x : ℕ). x < nodes legs) (switch_node_lt legs valid e l) (λ q. face_node_node (twin e) (twin_lt (length legs) e l)));
         low = each (λ a b s. a.end < 65533) (λ e l. omega arith) (λ e l. omega arith) (λ e l. omega arith);
-        light = each (λ a b s. a.weight ≤ 1000) (λ e l. (leg_bounds e l).0) (λ e l. omega arith) (λ e l. omega arith);
+        light = each (λ a b s. ForSome a.bend (λ x. x.weight ≤ 1000)) (λ e l x h. let w : (leg_at legs (e / 2)).weight ≡ x.weight = cc in let q = (leg_bounds e l).0 in omega arith) (λ e l x h. cc) (λ e l x h. cc);
         room = each (λ a b s. a.room ≤ 1000) crossing_le (λ e l. one_le e) (λ e l. omega arith);
-        weight = each (λ a b s. b.weight ≡ a.weight) (λ e l. ap (λ (i : ℕ). (leg_at legs i).weight) (twin_leg e)) (λ e l. refl) (λ e l. refl);
-        wet = each (λ a b s. b.wet ≡ a.wet) (λ e l. ap (λ (i : ℕ). (leg_at legs i).wet) (twin_leg e)) (λ e l. refl) (λ e l. refl);
-        free = each (λ a b s. b.free ≡ a.free) (λ e l. refl) (λ e l. refl) (λ e l. refl);
-        keyed = (key legs, each Key key_leg key_angle key_back);
+        paired = each (λ a b s. b.bend ≡ a.bend) (λ e l. ap (leg_bend legs) (twin_leg e)) (λ e l. refl) (λ e l. refl);
+        keyed = λ s t ls lt us ut node end.
+            let is = each Key key_leg key_angle key_back in
+            sym (is s ls us) ∙ (λ i. key legs (node i) (end i)) ∙ is t lt ut;
       }

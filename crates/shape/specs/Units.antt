@@ -1,7 +1,7 @@
 -- A plan's network: units go from sources and sinks through their angles to faces, and across legs from face to face.
 -- Sides are paired, 2k and 2k + 1, and a side leads from the node of its twin to its own. Leg i has sides 2i, from its right face to its
 -- left, and 2i + 1 back. After the legs' sides come those of the angles: the angle of end e has sides 2m + 2e, to its face, and the next, back.
-use Rattle.std.specs.Prelude.{ℕ, ◌+◌, ◌-◌, ◌*◌, ◌/◌, true, false, cond, List, ◌==◌, nat_lt}
+use Rattle.std.specs.Prelude.{ℕ, ◌+◌, ◌-◌, ◌*◌, ◌/◌, cond, List, Some, None, ◌==◌, nat_lt}
 use Rattle.survey.specs.declared.leg.Leg.{Leg}
 use Rattle.survey.specs.Ends.{ends, outgoing}
 use Rattle.embedding.specs.Rotation.{face, faces, twin}
@@ -20,18 +20,16 @@ leg_side legs e = record {
   node = face_node legs e;
   end = e;
   room = crossing_room legs e;
-  weight = (leg_at legs (e / 2)).weight;
-  wet = (leg_at legs (e / 2)).wet;
-  free = false;
+  bend = Some (record { weight = (leg_at legs (e / 2)).weight; wet = (leg_at legs (e / 2)).wet });
 }
 
 -- the side through the angle of e to its face, which is that of the other end of the leg; it has room for one unit at a source or sink
 abbrev pub angle_side : List Leg → ℕ → Side
-angle_side legs e = record { node = face_node legs (twin e); end = e; room = cond (switch legs e) 1 0; weight = 0; wet = 0; free = true }
+angle_side legs e = record { node = face_node legs (twin e); end = e; room = cond (switch legs e) 1 0; bend = None }
 
 -- its twin leads back to the source or sink; an angle elsewhere leads nowhere
 abbrev pub back_side : List Leg → ℕ → Side
-back_side legs e = record { node = cond (switch legs e) (switch_node legs e) (face_node legs (twin e)); end = e; room = 0; weight = 0; wet = 0; free = true }
+back_side legs e = record { node = cond (switch legs e) (switch_node legs e) (face_node legs (twin e)); end = e; room = 0; bend = None }
 
 -- the number of sides
 abbrev pub side_count : List Leg → ℕ
