@@ -7,7 +7,7 @@ ghost use Rattle.shape.specs.Statements.{HoldsNetwork};
 use crate::nodes::Nodes;
 use embedding::tables::fill;
 use pairs::twin;
-use search::Side;
+use search::{Bend, Side};
 
 // The side across a leg to the face of its end e.
 fn make_leg_side(nodes: &Nodes, e: usize) -> Side
@@ -25,9 +25,10 @@ fn make_leg_side(nodes: &Nodes, e: usize) -> Side
         node: nodes.of_face(e),
         end: e as u16,
         room,
-        weight: leg.weight,
-        wet: leg.wet,
-        free: false,
+        bend: Some(Bend {
+            weight: leg.weight,
+            wet: leg.wet,
+        }),
     }
 }
 
@@ -40,9 +41,7 @@ fn make_angle_side(nodes: &Nodes, e: usize) -> Side
         node: nodes.of_face(twin(e)),
         end: e as u16,
         room: if nodes.is_switch(e) { 1 } else { 0 },
-        weight: 0,
-        wet: 0,
-        free: true,
+        bend: None,
     }
 }
 
@@ -59,9 +58,7 @@ fn make_back_side(nodes: &Nodes, e: usize) -> Side
         },
         end: e as u16,
         room: 0,
-        weight: 0,
-        wet: 0,
-        free: true,
+        bend: None,
     }
 }
 

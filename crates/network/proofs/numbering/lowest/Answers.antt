@@ -11,6 +11,6 @@ pub returns : goal.returns
 returns c =
     let cave = c.args.cave.now in
     let legs = cave.legs.now in
-    holds_told 0 (lowest_at legs) _ (omega arith) c.table.ensures (λ e v l p.
+    holds_told 0 (lowest_at legs) _ (omega arith) c.table.ensures.told (λ e v l p.
     let said : v ≡ get_or c.firsts-firsts.result (station legs e) 0 = search rules in
     said ∙ c.firsts-firsts.ensures (station legs e) (station_lt legs e cave.valid (omega arith)) ∙ from_first legs e)

@@ -41,12 +41,12 @@ pub returns : goal.returns
 returns c =
     let legs = c.args.cave.now.legs.now in
     let n = ends legs in
-    let told = holds_told false (λ e. eqb (get_or c.lowest-lowest.result e 0) e && get_or c.args.switches.now e false) n (omega arith) c.table-marks.ensures (λ e v l p. search rules) in
+    let told = holds_told false (λ e. eqb (get_or c.lowest-lowest.result e 0) e && get_or c.args.switches.now e false) n (omega arith) c.table-marks.ensures.told (λ e v l p. search rules) in
     let m = marked legs c.lowest-lowest.result c.args.switches.now c.table-marks.result c.lowest-lowest.ensures c.requires.switches told in
     let each : Holds 0 (rank c.table-marks.result) c.fill_ranks-count.new.ranks n = λ e l. c.fill_ranks-count.ensures.each e (omega arith) in
     record {
       count = λ i. c.requires.faces i + (c.fill_ranks-count.ensures.total ∙ ap (rank c.table-marks.result) c.ends-n.ensures ∙ rank_all (names_switch legs) c.table-marks.result n m) i;
-      nodes = holds_told 0 (switch_node legs) _ (omega arith) c.table-nodes.ensures (λ e v l p.
+      nodes = holds_told 0 (switch_node legs) _ (omega arith) c.table-nodes.ensures.told (λ e v l p.
           let said : v ≡ c.args.faces + get_or c.fill_ranks-count.new.ranks (get_or c.lowest-lowest.result e 0) 0 = search rules in
           let a = c.lowest-lowest.ensures e (omega arith) in
           let b = lowest_le legs e (omega arith) in
