@@ -3,7 +3,7 @@ ghost use Rattle.std.specs.Prelude.{◌≡◌, ℕ, ◌+◌, ◌*◌, ◌<◌, �
 ghost use Rattle.search.specs.Networks.{units};
 ghost use Rattle.draw.specs.Tables.{straight, doubled};
 
-use crate::bends::Bends;
+use crate::bends::{Bends, STRAIGHT};
 use embedding::tables::table;
 
 /// The bends of each leg, two for each unit over its sides; none past the last leg.
@@ -13,7 +13,7 @@ pub fn bends_of(flow: &[u16], count: usize) -> [Bends; 256]
     requires small { (k : ℕ) → k < 2 * count → units flow.now k ≤ 1000 }
     ensures { (i : ℕ) → slice_index_or result i straight ≡ (if nat_lt i count then doubled (units flow.now (2 * i + 1)) (units flow.now (2 * i)) else straight) }
 {
-    table(count, Bends::default(), |i| Bends {
+    table(count, STRAIGHT, |i| Bends {
         left: 2 * flow[2 * i + 1],
         right: 2 * flow[2 * i],
     })

@@ -16,7 +16,7 @@ fn multiply<P: Price>(price: P, count: u32) -> P
     ensures small { P.Price.ops.size result ≤ 1000 * count }
 {
     let mut total = P::zero();
-    for _ in 0..count {
+    for k in 0..count {
         total = total.add(price);
     }
     total
@@ -29,9 +29,9 @@ pub fn price_bends<T: Tariff>(tariff: &T, cave: &Cave, bends: &[Bends]) -> T::Pr
     ensures { result ≡ shape_price T.Price.Price.ops (T.Tariff.rate tariff.now) cave.now.legs.now (shape_of [] bends.now) }
 {
     let mut total = <T::Price as Price>::zero();
-    for (leg, bends) in cave.legs.iter().zip(bends) {
+    for (i, leg) in cave.legs.iter().enumerate() {
         let bend = tariff.bend_price(leg.weight, leg.wet);
-        total = total.add(multiply(bend, bends.total()));
+        total = total.add(multiply(bend, bends[i].total()));
     }
     total
 }

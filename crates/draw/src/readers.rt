@@ -4,7 +4,7 @@ ghost use Rattle.plan.specs.States.{new_state};
 ghost use Rattle.draw.specs.Shapes.{bends as bends_of, NamesLarge, FirstShape};
 ghost use Rattle.draw.specs.Drawings.{drawing_legs, drawing_shape, drawing_state};
 
-use crate::bends::Bends;
+use crate::bends::{Bends, STRAIGHT};
 use crate::drawings::Drawing;
 use plan::plans::Plan;
 
@@ -20,7 +20,7 @@ impl Drawing {
         Drawing {
             plan: Plan::new(),
             large,
-            bends: [Bends::default(); 256],
+            bends: [STRAIGHT; 256],
         }
     }
 
@@ -37,7 +37,11 @@ impl Drawing {
         ensures right { result.right ≡ (drawing_shape self.now).right i }
         ensures past { length (drawing_legs self.now) ≤ i → (result.left ≡ 0) × (result.right ≡ 0) }
     {
-        if i < self.plan.count() { self.bends[i] } else { Bends::default() }
+        if i < self.plan.count() {
+            self.bends[i]
+        } else {
+            STRAIGHT
+        }
     }
 
     /// The left bends of leg i, 0 past the last leg.

@@ -1,0 +1,64 @@
+-- The nodes are few, and what the solve finds of the network it finds of the shapes.
+use Rattle.std.proofs.Common.{◌≡◌, ℕ, ◌<◌, ◌≤◌, List, length, take, sym, ◌∙◌, subst, arith, length-take-le, get_or-take}
+use Rattle.search.specs.Networks.{units}
+use Rattle.search.specs.Sides.{network, Proper}
+use Rattle.solve.specs.Solutions.{Answered}
+use Rattle.survey.specs.declared.leg.Leg.{Leg}
+use Rattle.embedding.specs.Rotation.{face}
+use Rattle.shape.specs.Nodes.{nodes}
+use Rattle.shape.specs.Statements.{HoldsDemands}
+use Rattle.shape.proofs.Places.{few_nodes}
+use Rattle.shape.proofs.ProperSides.{proper}
+use Rattle.draw.proofs.Solved.{routed}
+use Rattle.draw.proofs.routing.route.Goals as goal
+
+-- what the fronts hold, the nodes want and give
+front_demands : (legs : List Leg) (outer n : ℕ) (wants gives : List ℕ) → n ≡ nodes legs → HoldsDemands legs outer (units wants) (units gives) → HoldsDemands legs outer (units (take n wants)) (units (take n gives))
+front_demands legs outer n wants gives q h = record {
+  wants = λ v l. get_or-take n wants v 0 (omega arith) ∙ h.wants v l;
+  gives = λ v l. get_or-take n gives v 0 (omega arith) ∙ h.gives v l;
+}
+
+pub invariant_of-network : goal.invariant_of-network
+invariant_of-network g c = record {
+  proper = subst (λ (k : ℕ). Proper k c.fill_network-nodes.new.sides) (sym c.fill_network-nodes.ensures.nodes) (proper c.args.legs.now c.requires.valid c.fill_network-nodes.new.sides c.fill_network-nodes.ensures.sides c.requires.few);
+}
+
+pub slice_bounds-wants-end : goal.slice_bounds-wants-end
+slice_bounds-wants-end g c = let f = few_nodes c.args.legs.now c.requires.planar in omega (arith, c.fill_network-nodes.ensures.nodes, c.requires.few)
+
+pub slice_bounds-gives-end : goal.slice_bounds-gives-end
+slice_bounds-gives-end g c = let f = few_nodes c.args.legs.now c.requires.planar in omega (arith, c.fill_network-nodes.ensures.nodes, c.requires.few)
+
+pub slice_bounds-solve-end : goal.slice_bounds-solve-end
+slice_bounds-solve-end g c = sym (length-take-le _ c.fill_network-nodes.new.wants (let f = few_nodes c.args.legs.now c.requires.planar in omega (arith, c.fill_network-nodes.ensures.nodes, c.requires.few)))
+
+pub slice_bounds-solve-end-2 : goal.slice_bounds-solve-end-2
+slice_bounds-solve-end-2 g c = sym (length-take-le _ c.fill_network-nodes.new.gives (let f = few_nodes c.args.legs.now c.requires.planar in omega (arith, c.fill_network-nodes.ensures.nodes, c.requires.few)))
+
+pub solve-requires : goal.solve-requires
+solve-requires g c =
+    let f = few_nodes c.args.legs.now c.requires.planar in
+    record {
+      inside = (
+        c.requires.flow ∙ sym c.fill_network-nodes.ensures.sides.count,
+        length-take-le _ c.fill_network-nodes.new.wants (omega (arith, c.fill_network-nodes.ensures.nodes, c.requires.few)),
+        length-take-le _ c.fill_network-nodes.new.gives (omega (arith, c.fill_network-nodes.ensures.nodes, c.requires.few)),
+        omega (arith, c.fill_network-nodes.ensures.nodes, c.requires.few),
+      );
+      labels = omega (arith, c.fill_network-nodes.ensures.nodes, c.requires.labels);
+    }
+
+pub returns-clause-routed : goal.returns-clause-routed
+returns-clause-routed g c =
+    let o = g.T.Price.Price.ops in
+    let legs = c.args.legs.now in
+    let rate = g.T.Tariff.rate c.args.tariff.now in
+    let outer = face legs c.args.outer in
+    let n = c.fill_network-nodes.result in
+    let sides = c.fill_network-nodes.new.sides in
+    let P = units (take n c.fill_network-nodes.new.wants) in
+    let Q = units (take n c.fill_network-nodes.new.gives) in
+    let held = front_demands legs outer n c.fill_network-nodes.new.wants c.fill_network-nodes.new.gives c.fill_network-nodes.ensures.nodes c.fill_network-nodes.ensures.demands in
+    routed g.met.T.Price.Price.laws rate (g.met.T.Tariff.low c.args.tariff.now) legs outer sides P Q c.requires.valid c.requires.planar c.requires.few c.fill_network-nodes.ensures.sides held (units c.solve.new.flow) c.solve.result
+    (subst (λ (k : ℕ). Answered o k (network o rate sides) P Q (units c.solve.new.flow) c.solve.result) c.fill_network-nodes.ensures.nodes c.solve.ensures.answered)
