@@ -12,7 +12,7 @@ ghost use Rattle.shape.specs.Statements.{HoldsNetwork};
 
 use crate::nodes::{fill_face_nodes, fill_switch_nodes, fill_switches};
 use rotation::ends::twin;
-use search::Side;
+use search::{Bend, Side};
 use survey::leg::Leg;
 
 // The side across a leg to the face of its end e.
@@ -36,9 +36,10 @@ fn make_leg_side(legs: &[Leg], faces: &[usize], nodes: &[u16], e: usize) -> Side
         node: nodes[e],
         end: e as u16,
         room,
-        weight: leg.weight,
-        wet: leg.wet,
-        free: false,
+        bend: Some(Bend {
+            weight: leg.weight,
+            wet: leg.wet,
+        }),
     }
 }
 
@@ -72,9 +73,7 @@ fn make_angle_side(legs: &[Leg], nodes: &[u16], switches: &[bool], e: usize) -> 
         node: nodes[twin(e)],
         end: e as u16,
         room: if switches[e] { 1 } else { 0 },
-        weight: 0,
-        wet: 0,
-        free: true,
+        bend: None,
     }
 }
 
@@ -104,9 +103,7 @@ fn make_back_side(
         },
         end: e as u16,
         room: 0,
-        weight: 0,
-        wet: 0,
-        free: true,
+        bend: None,
     }
 }
 
