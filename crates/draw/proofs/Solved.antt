@@ -1,11 +1,11 @@
 -- What a solve of the plan's network says of the plan's shapes.
-use Rattle.std.proofs.Common.{◌≡◌, ℕ, ◌≤◌, true, List, length, sym, subst}
+use Rattle.std.proofs.Common.{◌≡◌, ℕ, ◌≤◌, true, List, length, Result, Ok, Err, sym, subst}
+use Rattle.std.specs.Prelude.{⊤}
 use Rattle.price.specs.Laws.{Ops, Laws}
 use Rattle.duality.specs.Flows.{price_of}
 use Rattle.search.specs.declared.Side.{Side}
 use Rattle.search.specs.Sides.{network}
-use Rattle.solve.specs.declared.Outcome.{Outcome}
-use Rattle.solve.specs.declared.Outcome.TheVariants.{Least, Infeasible}
+use Rattle.solve.specs.declared.Infeasible.{Infeasible}
 use Rattle.solve.specs.Solutions.{arcs, Answered}
 use Rattle.survey.specs.declared.leg.Leg.{Leg}
 use Rattle.survey.specs.Model.{valid_legs}
@@ -29,8 +29,8 @@ module _ {P : Type 0} {ops : Ops P} (L : Laws ops) (rate : ℕ → ℕ → P) (l
     to_shape = to_shape L rate legs outer sides p q valid held demands;
   }
 
-  pub routed : (f : ℕ → ℕ) (r : Outcome) → Answered ops (nodes legs) (network ops rate sides) p q f r → Routed ops rate legs outer f r
-  routed f Least best =
+  pub routed : (f : ℕ → ℕ) (r : Result ⊤ Infeasible) → Answered ops (nodes legs) (network ops rate sides) p q f r → Routed ops rate legs outer f r
+  routed f (Ok done) best =
       let made = laws.to_shape f best.fits best.one_way best.meets in
       let w = network ops rate sides in
       record {
@@ -41,4 +41,4 @@ module _ {P : Type 0} {ops : Ops P} (L : Laws ops) (rate : ℕ → ℕ → P) (l
             (L.trans (price_of ops (arcs (nodes legs) w) w.fee f) (price_of ops (arcs (nodes legs) w) w.fee (shape_units legs z)) (shape_price ops rate legs z) (best.least (shape_units legs z) sent.fits sent.meets) sent.costs);
         one_sided = made.one_sided;
       }
-  routed f Infeasible none = λ z v. let sent = laws.to_flow z v in none (shape_units legs z) sent.fits sent.meets
+  routed f (Err e) none = λ z v. let sent = laws.to_flow z v in none (shape_units legs z) sent.fits sent.meets

@@ -1,8 +1,7 @@
 -- What the units on the sides of a plan's network are to its shapes.
-use Rattle.std.specs.Prelude.{◌≡◌, ℕ, ◌<◌, true, ◌⊎◌, List, length}
+use Rattle.std.specs.Prelude.{◌≡◌, ℕ, ◌<◌, true, ◌⊎◌, List, length, Result, Ok, Err, ⊤}
 use Rattle.price.specs.Laws.{Ops}
-use Rattle.solve.specs.declared.Outcome.{Outcome}
-use Rattle.solve.specs.declared.Outcome.TheVariants.{Least, Infeasible}
+use Rattle.solve.specs.declared.Infeasible.{Infeasible}
 use Rattle.survey.specs.declared.leg.Leg.{Leg}
 use Rattle.shape.specs.Shapes.{Shape, Valid, shape_price}
 use Rattle.shape.specs.Units.{units_shape}
@@ -15,6 +14,6 @@ pub record MakesLeast {P : Type 0} (ops : Ops P) (rate : ℕ → ℕ → P) (leg
   pub one_sided : (i : ℕ) → i < length legs → ((units_shape legs f).left i ≡ 0) ⊎ ((units_shape legs f).right i ≡ 0)
 
 -- what the outcome of a solve says of the plan's shapes
-abbrev pub Routed : {P : Type 0} → Ops P → (ℕ → ℕ → P) → List Leg → (outer : ℕ) → (ℕ → ℕ) → Outcome → Type 0
-Routed ops rate legs outer f Least = MakesLeast ops rate legs outer f
-Routed ops rate legs outer f Infeasible = NoShape legs outer
+abbrev pub Routed : {P : Type 0} → Ops P → (ℕ → ℕ → P) → List Leg → (outer : ℕ) → (ℕ → ℕ) → Result ⊤ Infeasible → Type 0
+Routed ops rate legs outer f (Ok done) = MakesLeast ops rate legs outer f
+Routed ops rate legs outer f (Err e) = NoShape legs outer

@@ -17,7 +17,6 @@ use price::Tariff;
 use refusal::Refusal;
 use search::{Label, Side};
 use slice_vec::SliceVec;
-use solve::Outcome;
 use survey::leg::Leg;
 
 const BLANK_LEG: Leg = Leg {
@@ -33,9 +32,7 @@ const BLANK_SIDE: Side = Side {
     node: 0,
     end: 0,
     room: 0,
-    weight: 0,
-    wet: 0,
-    free: false,
+    bend: None,
 };
 
 // The outer side of a plan: a leg, and 0 for its left or 1 for its right.
@@ -90,17 +87,16 @@ fn draw_over<T: Tariff>(
     ensures long { length labels.new.places.now ≡ length labels.old.places.now }
     ensures lender { labels.new.places.ghost_name ≡ labels.old.places.ghost_name }
 {
-    match route(
+    route(
         plan.as_slice(),
         plan.outer_end(),
         tariff,
         labels,
         sides,
         flow,
-    ) {
-        Outcome::Infeasible => Err(Refusal::NoShape),
-        Outcome::Least => Ok(keep(plan, tariff, flow, drawing)),
-    }
+    )
+    .map_err(|_| Refusal::NoShape)?;
+    Ok(keep(plan, tariff, flow, drawing))
 }
 
 /// Takes a plan away and fills a drawing with a least valid shape of it, and tells the price. It takes as many labels as there

@@ -10,9 +10,10 @@ ghost use Rattle.draw.specs.Routes.{Routed};
 
 use network::fill_network;
 use price::Tariff;
+use search::network::Network;
 use search::{Label, Side};
 use slice_vec::SliceVec;
-use solve::{Outcome, solve};
+use solve::{Infeasible, solve};
 use survey::leg::Leg;
 
 /// Finds the units of a least valid shape, or tells that no shape is valid. The face of the end `outer` is the outer one.
@@ -23,7 +24,7 @@ pub fn route<T: Tariff>(
     labels: &mut SliceVec<'_, Label<T::Price>>,
     sides: &mut [Side],
     flow: &mut [u16],
-) -> Outcome
+) -> Result<(), Infeasible>
     requires valid { valid_legs legs.now ≡ true }
     requires planar { planar legs.now ≡ true }
     requires few { length legs.now ≤ 256 }
@@ -38,12 +39,16 @@ pub fn route<T: Tariff>(
     let mut wants = [0; 1024];
     let mut gives = [0; 1024];
     let nodes = fill_network(legs, outer, sides, &mut wants, &mut gives);
-    solve(
+    let network = Network {
         tariff,
         sides,
+        nodes,
+    };
+    solve(
+        &network,
         flow,
-        &mut wants[0..nodes],
-        &mut gives[0..nodes],
+        &mut wants[..nodes],
+        &mut gives[..nodes],
         labels,
     )
 }
