@@ -5,10 +5,11 @@ ghost use Rattle.std.specs.Prelude.{◌≡◌, ◌%◌, ◌<◌, ◌≤◌, leng
 ghost use Rattle.search.specs.Sides.{Proper};
 ghost use Rattle.flow_vectors.specs.Networks.{side_from_lem};
 
-use price::{Plain, PlainTariff, Ranked, RankedTariff};
-use search::{Label, Side};
+use price::{PlainTariff, RankedTariff, Tariff};
+use search::network::Network;
+use search::{Bend, Label, Side};
 use slice_vec::SliceVec;
-use solve::{Outcome, solve};
+use solve::solve;
 
 const NODES: usize = 16;
 
@@ -16,7 +17,7 @@ const NODES: usize = 16;
 fn number(numbers: &[u32], i: usize) -> u32
     ensures { result ≡ slice_index numbers.now i }
 {
-    if i < numbers.len() { numbers[i] } else { 0 }
+    numbers.get(i).copied().unwrap_or(0)
 }
 
 // Side s of the network that the numbers give.
@@ -25,13 +26,19 @@ fn side_from(numbers: &[u32], nodes: usize, s: usize) -> Side
     ensures { result ≡ side_from_lem numbers.now nodes s }
 {
     let at = 7 * (s / 2);
+    let bend = Bend {
+        weight: number(numbers, at + 4).min(1000),
+        wet: number(numbers, at + 5),
+    };
     Side {
         node: (number(numbers, at + (1 - s % 2)) as usize % nodes) as u16,
         end: s as u16,
         room: number(numbers, at + (2 + s % 2)).min(1000) as u16,
-        weight: number(numbers, at + 4).min(1000),
-        wet: number(numbers, at + 5),
-        free: number(numbers, at + 6) == 1,
+        bend: if number(numbers, at + 6) == 1 {
+            None
+        } else {
+            Some(bend)
+        },
     }
 }
 
@@ -40,8 +47,8 @@ fn load(numbers: &[u32], nodes: usize, sides: &mut [Side])
     requires { (0 < nodes) × (nodes ≤ 16) × (length sides.old ≤ 64) × (length sides.old % 2 ≡ 0) }
     ensures { Proper nodes sides.new }
 {
-    for s in 0..sides.len() {
-        sides[s] = side_from(numbers, nodes, s);
+    for (s, side) in sides.iter_mut().enumerate() {
+        *side = side_from(numbers, nodes, s);
     }
 }
 
@@ -49,8 +56,8 @@ fn load(numbers: &[u32], nodes: usize, sides: &mut [Side])
 fn demands(numbers: &[u32], which: usize, left: &mut [u16])
     requires { (which < 2) × (length left.old ≤ 16) }
 {
-    for v in 0..left.len() {
-        left[v] = number(numbers, 2 * v + which).min(1000) as u16;
+    for (v, units) in left.iter_mut().enumerate() {
+        *units = number(numbers, 2 * v + which).min(1000) as u16;
     }
 }
 
@@ -58,93 +65,76 @@ fn demands(numbers: &[u32], which: usize, left: &mut [u16])
 fn paid(sides: &[Side], flow: &[u16], wet: u32) -> u64 {
     let mut sum = 0u64;
     for (side, units) in sides.iter().zip(flow.iter()) {
-        if !side.free && side.wet == wet {
-            let price = (2 * side.weight as u64).saturating_mul(*units as u64);
+        if let Some(bend) = side.bend.filter(|bend| bend.wet == wet) {
+            let price = (2 * bend.weight as u64).saturating_mul(*units as u64);
             sum = sum.saturating_add(price);
         }
     }
     sum
 }
 
-// Solves at plain prices: whether a flow meets the demands.
-fn meets_plain(numbers: &[u32], nodes: usize, sides: &[Side], flow: &mut [u16]) -> bool
-    requires { Proper nodes sides.now × (nodes ≤ 16) × (length flow.old ≡ length sides.now) }
+// Solves by a tariff, over these places for labels: whether a flow meets the demands.
+fn meets<T: Tariff>(
+    tariff: &T,
+    numbers: &[u32],
+    nodes: usize,
+    sides: &[Side],
+    flow: &mut [u16],
+    places: &mut [Label<T::Price>],
+) -> bool
+    requires { Proper nodes sides.now × (nodes ≤ 16) × (length flow.old ≡ length sides.now) × (nodes ≤ length places.old) }
 {
     let mut wants = [0u16; NODES];
     let mut gives = [0u16; NODES];
     demands(numbers, 0, &mut wants);
     demands(numbers, 1, &mut gives);
-    let mut places = [Label {
-        price: Plain { value: 0 },
-        end: 0,
-    }; NODES];
-    let mut labels = SliceVec::new(&mut places);
-    let found = solve(
-        &PlainTariff,
+    let mut labels = SliceVec::new(places);
+    let network = Network {
+        tariff,
         sides,
+        nodes,
+    };
+    solve(
+        &network,
         flow,
-        &mut wants[0..nodes],
-        &mut gives[0..nodes],
+        &mut wants[..nodes],
+        &mut gives[..nodes],
         &mut labels,
-    );
-    match found {
-        Outcome::Least => true,
-        Outcome::Infeasible => false,
-    }
-}
-
-// Solves at ranked prices: whether a flow meets the demands.
-fn meets_ranked(numbers: &[u32], nodes: usize, sides: &[Side], flow: &mut [u16]) -> bool
-    requires { Proper nodes sides.now × (nodes ≤ 16) × (length flow.old ≡ length sides.now) }
-{
-    let mut wants = [0u16; NODES];
-    let mut gives = [0u16; NODES];
-    demands(numbers, 0, &mut wants);
-    demands(numbers, 1, &mut gives);
-    let mut places = [Label {
-        price: Ranked {
-            first: 0,
-            second: 0,
-        },
-        end: 0,
-    }; NODES];
-    let mut labels = SliceVec::new(&mut places);
-    let found = solve(
-        &RankedTariff,
-        sides,
-        flow,
-        &mut wants[0..nodes],
-        &mut gives[0..nodes],
-        &mut labels,
-    );
-    match found {
-        Outcome::Least => true,
-        Outcome::Infeasible => false,
-    }
+    )
+    .is_ok()
 }
 
 // Whether both kinds of price come out as given, for the network at the start of the numbers.
 fn agrees(numbers: &[u32], nodes: usize, pairs: usize) -> bool
     requires { (0 < nodes) × (nodes ≤ 16) × (pairs ≤ 32) }
 {
-    let mut all = [Side {
-        node: 0,
-        end: 0,
-        room: 0,
-        weight: 0,
-        wet: 0,
-        free: false,
-    }; 64];
+    let mut all = [Side::default(); 64];
     let mut units = [0u16; 64];
     let given = from(numbers, 2 + 2 * nodes);
-    let sides = &mut all[0..2 * pairs];
+    let sides = &mut all[..2 * pairs];
     load(given, nodes, sides);
-    let flow = &mut units[0..2 * pairs];
+    let flow = &mut units[..2 * pairs];
     let expected = from(given, 7 * pairs);
     let feasible = number(expected, 0) == 1;
-    let plain = meets_plain(from(numbers, 2), nodes, sides, flow);
+    let mut plain_places = [Label::none(); NODES];
+    let plain = meets(
+        &PlainTariff,
+        from(numbers, 2),
+        nodes,
+        sides,
+        flow,
+        &mut plain_places,
+    );
     let plain_price = paid(sides, flow, 0).saturating_add(paid(sides, flow, 1));
-    let ranked = meets_ranked(from(numbers, 2), nodes, sides, flow);
+    let mut ranked_places = [Label::none(); NODES];
+    let ranked = meets(
+        &RankedTariff,
+        from(numbers, 2),
+        nodes,
+        sides,
+        flow,
+        &mut ranked_places,
+    );
     let first = paid(sides, flow, 1);
     let second = paid(sides, flow, 0);
     if !feasible {
@@ -159,11 +149,7 @@ fn agrees(numbers: &[u32], nodes: usize, pairs: usize) -> bool
 
 // The numbers from a place on.
 fn from(numbers: &[u32], at: usize) -> &[u32] {
-    if at < numbers.len() {
-        &numbers[at..]
-    } else {
-        &[]
-    }
+    numbers.get(at..).unwrap_or(&[])
 }
 
 fn main(rt: HostRuntime) -> anyhow::Result<()> {

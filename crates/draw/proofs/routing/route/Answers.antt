@@ -1,5 +1,5 @@
 -- The nodes are few, and what the solve finds of the network it finds of the shapes.
-use Rattle.std.proofs.Common.{◌≡◌, ℕ, ◌<◌, ◌≤◌, List, length, take, sym, ◌∙◌, subst, arith, length-take-le, get_or-take}
+use Rattle.std.proofs.Common.{◌≡◌, ℕ, List, take, sym, ◌∙◌, subst, arith, length-take-le, get_or-take}
 use Rattle.search.specs.Networks.{units}
 use Rattle.search.specs.Sides.{network, Proper}
 use Rattle.solve.specs.Solutions.{Answered}
