@@ -1,5 +1,5 @@
 -- The new drawing: one leg, whose two stations are a source and a sink, with both angles large.
-use Rattle.std.proofs.Common.{◌≡◌, ℕ, zero, suc, ◌<◌, Bool, true, false, cond, ltb, List, [], ◌∷◌, get_or, set, replicate, sym, refl, ◌∙◌, arith}
+use Rattle.std.proofs.Common.{◌≡◌, ℕ, zero, suc, ◌<◌, true, false, cond, ltb, [], ◌∷◌, get_or, set, replicate, sym, refl, ◌∙◌, arith}
 use Rattle.std.proofs.lemmas.Bool.{le-ltb}
 use Rattle.plan.specs.States.{first_leg}
 use Rattle.shape.specs.Shapes.{Shape, switch, large_at}

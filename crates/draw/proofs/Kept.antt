@@ -1,11 +1,11 @@
 -- The tables that are filled from units hold the shape that the units make, and nothing past the last leg.
-use Rattle.std.proofs.Common.{◌≡◌, ℕ, ◌+◌, ◌*◌, ◌<◌, ◌≤◌, Bool, true, false, cond, ltb, List, [], length, get_or, sym, ap, ◌∙◌, subst, inl, inr, ⊎_elim, arith}
-use Rattle.std.proofs.lemmas.Bool.{cond-true, cond-false, lt-ltb, le-ltb}
+use Rattle.std.proofs.Common.{◌≡◌, ℕ, ◌+◌, ◌*◌, ◌/◌, ◌<◌, ◌≤◌, ◌≢◌, ◌⊎◌, Bool, true, false, cond, ltb, List, [], length, get_or, sym, ap, ◌∙◌, subst, inl, inr, ⊎_elim, arith}
+use Rattle.std.proofs.lemmas.Bool.{cases_eq, cond-true, cond-false, lt-ltb, le-ltb}
 use Rattle.price.specs.Laws.{Ops, Laws}
 use Rattle.survey.specs.declared.leg.Leg.{Leg}
 use Rattle.survey.specs.Model.{valid_legs}
 use Rattle.network.proofs.Ranges.{limit_le}
-use Rattle.shape.specs.Shapes.{Shape, Valid, shape_price}
+use Rattle.shape.specs.Shapes.{Valid, shape_price}
 use Rattle.shape.specs.Units.{units_shape}
 use Rattle.draw.specs.declared.bends.Bends.{Bends}
 use Rattle.draw.specs.Tables.{straight, doubled, shape_of}
@@ -13,9 +13,20 @@ use Rattle.draw.specs.Shapes.{EndsThere, LeastShape}
 use Rattle.draw.specs.Routes.{MakesLeast}
 use Rattle.draw.proofs.Agree.{Agree, same_valid, same_price}
 
+either : (k : ℕ) → (k ≡ 2 * (k / 2)) ⊎ (k ≡ 2 * (k / 2) + 1)
+either k = ⊎_elim (λ (e : k ≡ 2 * (k / 2)). inl e) (λ (n : k ≢ 2 * (k / 2)). inr (omega arith)) (cases_eq k (2 * (k / 2)))
+
 -- a leg of a valid shape has at most 999 units on each side
-pub units_small : (legs : List Leg) (outer : ℕ) (f : ℕ → ℕ) → valid_legs legs ≡ true → Valid legs outer (units_shape legs f) → (i : ℕ) → i < length legs → (f (2 * i + 1) ≤ 1000) × (f (2 * i) ≤ 1000)
-units_small legs outer f valid v i l = let b = v.bounded i l in let m = limit_le legs i valid l in (omega arith, omega arith)
+pub units_small : (legs : List Leg) (outer : ℕ) (f : ℕ → ℕ) → valid_legs legs ≡ true → Valid legs outer (units_shape legs f) → (k : ℕ) → k < 2 * length legs → f k ≤ 1000
+units_small legs outer f valid v k l =
+    let i = k / 2 in
+    let h : i < length legs = omega arith in
+    let b = v.bounded i h in
+    let m = limit_le legs i valid h in
+    ⊎_elim
+    (λ (q : k ≡ 2 * i). let e = ap f q in omega arith)
+    (λ (q : k ≡ 2 * i + 1). let e = ap f q in omega arith)
+    (either k)
 
 -- large angles and bends as they are filled in from the units f, where there are n legs
 pub record Filled (n : ℕ) (f : ℕ → ℕ) (large : List Bool) (bends : List Bends) : Type 0 where
@@ -45,9 +56,8 @@ module _ (legs : List Leg) (n : ℕ) (all : n ≡ length legs) (f : ℕ → ℕ)
 
   pub bends_small : (outer : ℕ) → valid_legs legs ≡ true → Valid legs outer (units_shape legs f) → (i : ℕ) → i < length legs → (get_or bends i straight).left + (get_or bends i straight).right ≤ 4000
   bends_small outer valid v i l =
-      let s = units_small legs outer f valid v i l in
-      let a = s.0 in
-      let b = s.1 in
+      let a = units_small legs outer f valid v (2 * i + 1) (omega arith) in
+      let b = units_small legs outer f valid v (2 * i) (omega arith) in
       let c = agrees.left i l in
       let d = agrees.right i l in
       omega arith

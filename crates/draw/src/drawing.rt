@@ -25,8 +25,9 @@ fn keep<T: Tariff>(plan: Plan, tariff: &T, flow: &[u16], drawing: &mut Drawing) 
     ensures plan { drawing_state drawing.new ≡ plan_state plan }
     ensures shape { LeastShape T.Price.Price.ops (T.Tariff.rate tariff.now) (plan_legs plan) (outer_face plan) (drawing_shape drawing.new) result }
 {
-    let large = large_of(flow, 2 * plan.count());
-    let bends = bends_of(flow, plan.count());
+    let count = plan.count();
+    let large = large_of(flow, 2 * count);
+    let bends = bends_of(flow, count);
     let price = price_bends(tariff, &plan.cave(), &bends);
     *drawing = Drawing { plan, large, bends };
     price

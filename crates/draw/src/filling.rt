@@ -13,10 +13,14 @@ pub fn bends_of(flow: &[u16], count: usize) -> [Bends; 256]
     requires small { (k : ℕ) → k < 2 * count → units flow.now k ≤ 1000 }
     ensures { (i : ℕ) → slice_index_or result i straight ≡ (if nat_lt i count then doubled (units flow.now (2 * i + 1)) (units flow.now (2 * i)) else straight) }
 {
-    table(count, STRAIGHT, |i| Bends {
-        left: 2 * flow[2 * i + 1],
-        right: 2 * flow[2 * i],
-    })
+    table(
+        count,
+        STRAIGHT,
+        |i| Bends {
+            left: 2 * flow[2 * i + 1],
+            right: 2 * flow[2 * i],
+        },
+    )
 }
 
 /// Which angles are large: those through which a unit goes. The sides of the angles begin at `ends`.

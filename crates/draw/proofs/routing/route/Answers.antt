@@ -21,30 +21,30 @@ front_demands legs outer n wants gives q h = record {
 
 pub invariant_of-network : goal.invariant_of-network
 invariant_of-network g c = record {
-  proper = subst (λ (k : ℕ). Proper k c.fill_network-nodes.new.sides) (sym c.fill_network-nodes.ensures.nodes) (proper c.args.legs.now c.requires.valid c.fill_network-nodes.new.sides c.fill_network-nodes.ensures.sides c.requires.few);
+  proper = subst (λ (k : ℕ). Proper k c.fill_network-nodes.new.sides) (sym c.fill_network-nodes.ensures.nodes) (proper c.args.cave.now.legs.now c.args.cave.now.valid c.fill_network-nodes.new.sides c.fill_network-nodes.ensures.sides c.args.cave.now.few);
 }
 
 pub slice_bounds-wants-end : goal.slice_bounds-wants-end
-slice_bounds-wants-end g c = let f = few_nodes c.args.legs.now c.requires.planar in omega (arith, c.fill_network-nodes.ensures.nodes, c.requires.few)
+slice_bounds-wants-end g c = let f = few_nodes c.args.cave.now.legs.now c.requires.planar in omega (arith, c.fill_network-nodes.ensures.nodes, c.args.cave.now.few)
 
 pub slice_bounds-gives-end : goal.slice_bounds-gives-end
-slice_bounds-gives-end g c = let f = few_nodes c.args.legs.now c.requires.planar in omega (arith, c.fill_network-nodes.ensures.nodes, c.requires.few)
+slice_bounds-gives-end g c = let f = few_nodes c.args.cave.now.legs.now c.requires.planar in omega (arith, c.fill_network-nodes.ensures.nodes, c.args.cave.now.few)
 
 pub slice_bounds-solve-end : goal.slice_bounds-solve-end
-slice_bounds-solve-end g c = sym (length-take-le _ c.fill_network-nodes.new.wants (let f = few_nodes c.args.legs.now c.requires.planar in omega (arith, c.fill_network-nodes.ensures.nodes, c.requires.few)))
+slice_bounds-solve-end g c = sym (length-take-le _ c.fill_network-nodes.new.wants (let f = few_nodes c.args.cave.now.legs.now c.requires.planar in omega (arith, c.fill_network-nodes.ensures.nodes, c.args.cave.now.few)))
 
 pub slice_bounds-solve-end-2 : goal.slice_bounds-solve-end-2
-slice_bounds-solve-end-2 g c = sym (length-take-le _ c.fill_network-nodes.new.gives (let f = few_nodes c.args.legs.now c.requires.planar in omega (arith, c.fill_network-nodes.ensures.nodes, c.requires.few)))
+slice_bounds-solve-end-2 g c = sym (length-take-le _ c.fill_network-nodes.new.gives (let f = few_nodes c.args.cave.now.legs.now c.requires.planar in omega (arith, c.fill_network-nodes.ensures.nodes, c.args.cave.now.few)))
 
 pub solve-requires : goal.solve-requires
 solve-requires g c =
-    let f = few_nodes c.args.legs.now c.requires.planar in
+    let f = few_nodes c.args.cave.now.legs.now c.requires.planar in
     record {
       inside = (
         c.requires.flow ∙ sym c.fill_network-nodes.ensures.sides.count,
-        length-take-le _ c.fill_network-nodes.new.wants (omega (arith, c.fill_network-nodes.ensures.nodes, c.requires.few)),
-        length-take-le _ c.fill_network-nodes.new.gives (omega (arith, c.fill_network-nodes.ensures.nodes, c.requires.few)),
-        omega (arith, c.fill_network-nodes.ensures.nodes, c.requires.few),
+        length-take-le _ c.fill_network-nodes.new.wants (omega (arith, c.fill_network-nodes.ensures.nodes, c.args.cave.now.few)),
+        length-take-le _ c.fill_network-nodes.new.gives (omega (arith, c.fill_network-nodes.ensures.nodes, c.args.cave.now.few)),
+        omega (arith, c.fill_network-nodes.ensures.nodes, c.args.cave.now.few),
       );
       labels = omega (arith, c.fill_network-nodes.ensures.nodes, c.requires.labels);
     }
@@ -52,7 +52,7 @@ solve-requires g c =
 pub returns-clause-routed : goal.returns-clause-routed
 returns-clause-routed g c =
     let o = g.T.Price.Price.ops in
-    let legs = c.args.legs.now in
+    let legs = c.args.cave.now.legs.now in
     let rate = g.T.Tariff.rate c.args.tariff.now in
     let outer = face legs c.args.outer in
     let n = c.fill_network-nodes.result in
@@ -60,5 +60,5 @@ returns-clause-routed g c =
     let P = units (take n c.fill_network-nodes.new.wants) in
     let Q = units (take n c.fill_network-nodes.new.gives) in
     let held = front_demands legs outer n c.fill_network-nodes.new.wants c.fill_network-nodes.new.gives c.fill_network-nodes.ensures.nodes c.fill_network-nodes.ensures.demands in
-    routed g.met.T.Price.Price.laws rate (g.met.T.Tariff.low c.args.tariff.now) legs outer sides P Q c.requires.valid c.requires.planar c.requires.few c.fill_network-nodes.ensures.sides held (units c.solve.new.flow) c.solve.result
+    routed g.met.T.Price.Price.laws rate (g.met.T.Tariff.low c.args.tariff.now) legs outer sides P Q c.args.cave.now.valid c.requires.planar c.args.cave.now.few c.fill_network-nodes.ensures.sides held (units c.solve.new.flow) c.solve.result
     (subst (λ (k : ℕ). Answered o k (network o rate sides) P Q (units c.solve.new.flow) c.solve.result) c.fill_network-nodes.ensures.nodes c.solve.ensures.answered)
