@@ -1,12 +1,7 @@
--- Legs and answers as the examples write them.
+-- Answers as the examples write them.
 use Rattle.std.specs.Prelude.{ℕ, cond, Some, None, Option, slice_index}
 use Rattle.refusal.specs.Answers.{Answer, refuses}
-use Rattle.survey.specs.declared.leg.Leg.{Leg}
 use Rattle.survey.specs.Model.{is_accepted}
-
--- a leg of weight 1, dry, with limit 999
-abbrev pub plain_leg : (from to bearing : ℕ) → Leg
-plain_leg s t b = record { from = s; to = t; bearing = b; weight = 1; wet = 0; limit = 999 }
 
 -- an answer with one value, as a pair
 abbrev pub told_as : ℕ × ℕ → Answer

@@ -4,8 +4,8 @@
 
 ghost use Rattle.std.specs.Prelude.{◌≡◌};
 ghost use Rattle.refusal.specs.Answers.{told as told_of};
-ghost use Rattle.survey.specs.Model.{query_answer};
-ghost use Rattle.survey_tests.specs.Examples.{plain_leg, told_as, bearing_told};
+ghost use Rattle.survey.specs.Model.{plain_leg, query_answer};
+ghost use Rattle.survey_tests.specs.Examples.{told_as, bearing_told};
 
 use refusal::Refusal;
 use survey::Survey;
@@ -15,14 +15,7 @@ use survey::leg::Leg;
 fn leg(from: u32, to: u32, bearing: u32) -> Leg
     ensures { result ≡ plain_leg from to bearing }
 {
-    Leg {
-        from,
-        to,
-        bearing,
-        weight: 1,
-        wet: 0,
-        limit: 999,
-    }
+    Leg::plain(from, to, bearing)
 }
 
 // An answer by number and value, 0 and 0 where the call is accepted.
