@@ -11,9 +11,12 @@ use draw::drawings::Drawing;
 use itoa::Buffer;
 use refusal::Refusal;
 
+/// The longest text that is written, in bytes.
+const MOST_BYTES: usize = 128;
+
 // Appends a number in base ten, which has at most 20 digits.
-fn push_number(text: &mut ArrayString<128>, number: usize)
-    requires { array_string_len text.old + 20 ≤ 128 }
+fn push_number(text: &mut ArrayString<MOST_BYTES>, number: usize)
+    requires { array_string_len text.old + 20 ≤ MOST_BYTES }
     ensures bytes { text.new.bytes ≡ text.old.bytes ++ decimal number }
     ensures room { array_string_len text.new ≤ array_string_len text.old + 20 }
 {
@@ -21,8 +24,8 @@ fn push_number(text: &mut ArrayString<128>, number: usize)
 }
 
 // Appends a line: words, a number and a line feed.
-fn push_line(text: &mut ArrayString<128>, words: &str, number: usize)
-    requires { array_string_len text.old + length words.now + 21 ≤ 128 }
+fn push_line(text: &mut ArrayString<MOST_BYTES>, words: &str, number: usize)
+    requires { array_string_len text.old + length words.now + 21 ≤ MOST_BYTES }
     ensures bytes { text.new.bytes ≡ text.old.bytes ++ text_line words.now number }
     ensures room { array_string_len text.new ≤ array_string_len text.old + length words.now + 21 }
 {
@@ -32,7 +35,12 @@ fn push_line(text: &mut ArrayString<128>, words: &str, number: usize)
 }
 
 // The summary's four lines.
-fn summary_lines(stations: usize, legs: usize, faces: usize, bends: usize) -> ArrayString<128>
+fn summary_lines(
+    stations: usize,
+    legs: usize,
+    faces: usize,
+    bends: usize,
+) -> ArrayString<MOST_BYTES>
     ensures { result.bytes ≡ summary_text stations legs faces bends }
 {
     let mut text = ArrayString::new();

@@ -10,7 +10,6 @@ ghost use Rattle.svx.specs.Reading.{means, Reads, Exactly};
 ghost use Rattle.svx.specs.Told.{outcome};
 
 pub mod fault;
-mod line_feed;
 mod reader;
 
 use fault::{Fault, Layer};

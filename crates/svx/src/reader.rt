@@ -1,7 +1,16 @@
-ghost use Rattle.std.specs.Prelude.{◌≡◌, ◌≤◌};
+ghost use Rattle.std.specs.Prelude.{◌≡◌, ◌≤◌, position};
+ghost use Rattle.svx_fields.specs.Bytes.{ends_line};
 
-use crate::line_feed::find_line_feed;
+use svx_fields::bytes::ByteClass;
+use svx_fields::classify;
 use svx_line::part::Part;
+
+// The place of the first line feed, if there is one.
+fn find_line_feed(s: &[u8]) -> Option<usize>
+    ensures { result ≡ position ends_line s.now }
+{
+    s.iter().position(|b| classify(*b) == ByteClass::LineFeed)
+}
 
 /// Reads a lent text line by line: the place of the next line, and the number of the line read last.
 #[derive(Clone, Copy)]
@@ -30,7 +39,7 @@ impl<'a> Reader<'a> {
     }
 
     /// The next line, a part of the text.
-    #[tactic(auto, using(svx_fields::proofs::Scans::place_or_length))]
+    #[tactic(auto, using(svx_fields::proofs::Scans::place_or_length, crate::proofs::Lefts::left_cut))]
     pub(crate) fn next_line(&mut self) -> Option<Part<'a>>
         ensures text { self.new.text.now ≡ self.old.text.now }
         ensures lines { lines_left self.old.place self.old.text.now ≡ with_line result (lines_left self.new.place self.old.text.now) }
