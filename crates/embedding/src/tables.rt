@@ -9,6 +9,7 @@ pub fn fill<T: Copy, F: Fn(usize) -> T>(table: &mut [T], n: usize, f: F)
     ensures long { length table.new ≡ length table.old }
     ensures told { Tells (F.post f) table.new n }
 {
+    // By index, since f is asked by index.
     for e in 0..n {
         table[e] = f(e);
     }

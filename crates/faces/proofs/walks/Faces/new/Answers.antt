@@ -1,5 +1,5 @@
 -- The table of steps is the face walk, and the names of its cycles are the faces.
-use Rattle.std.proofs.Common.{ℕ, get_or, sym, ap, ◌∙◌, subst, arith, rules}
+use Rattle.std.proofs.Common.{ℕ, get_or, sym, ap, ◌∙◌, subst, arith}
 use Rattle.survey.specs.Ends.{ends}
 use Rattle.embedding.specs.Walks.{lowest}
 use Rattle.embedding.specs.Laws.{Permutes}
