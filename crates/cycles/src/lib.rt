@@ -30,6 +30,7 @@ fn name_cycle(steps: &[usize], n: usize, names: &mut [usize], e: usize)
     ensures { Holds 0 (named_below steps.now n (e + 1)) names.new n }
 {
     let mut at = e;
+    // So many steps at most, so that the walk is seen to end.
     for k in 0..n {
         at = name_one(steps, names, at, e);
         if at == e {
@@ -70,6 +71,7 @@ pub fn tally(keys: &[usize], chosen: &[bool], n: usize, tallies: &mut [usize])
     requires blank { Holds 0 (λ _. 0) tallies.old (length tallies.old) }
     ensures { Holds 0 (tallied keys.now chosen.now n) tallies.new (length tallies.old) }
 {
+    // By number: the contract counts numbers, not the items of lists.
     for k in 0..n {
         if chosen[k] {
             count_one(tallies, keys[k]);

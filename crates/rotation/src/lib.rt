@@ -24,8 +24,8 @@ pub fn bearing_gap(from: u32, to: u32) -> u32
     }
 }
 
-// Links each end to the end before it at its station, and leaves the last end of each station in places that hold none.
-fn link(cave: &Cave, lasts: &mut [Option<usize>]) -> [Option<usize>; 512]
+// Links each end to the end before it at its station, in 16 bits to keep the tables small, and leaves the last end of each station in places that hold none.
+fn link(cave: &Cave, lasts: &mut [Option<u16>]) -> [Option<u16>; 512]
     requires long { 10000 ≤ length lasts.old }
     requires blank { Holds None (λ _. None) lasts.old 10000 }
     ensures long { length lasts.new ≡ length lasts.old }
@@ -36,13 +36,13 @@ fn link(cave: &Cave, lasts: &mut [Option<usize>]) -> [Option<usize>; 512]
     for e in 0..cave.ends() {
         let s = cave.station(e) as usize;
         befores[e] = lasts[s];
-        lasts[s] = Some(e);
+        lasts[s] = Some(e as u16);
     }
     befores
 }
 
 // The end that follows e, found along the chain of its station.
-fn nearest(cave: &Cave, befores: &[Option<usize>], last: Option<usize>, e: usize) -> usize
+fn nearest(cave: &Cave, befores: &[Option<u16>], last: Option<u16>, e: usize) -> usize
     requires linked { Holds None (end_before cave.now.legs.now) befores.now (ends cave.now.legs.now) }
     requires room { ends cave.now.legs.now ≤ length befores.now }
     requires inside { e < ends cave.now.legs.now }
@@ -53,7 +53,8 @@ fn nearest(cave: &Cave, befores: &[Option<usize>], last: Option<usize>, e: usize
     let mut best = e;
     let mut least = 3600;
     let mut rest = last;
-    while let Some(k) = rest {
+    while let Some(end) = rest {
+        let k = end as usize;
         let gap = bearing_gap(from, cave.bearing(k));
         if gap < least {
             best = k;
@@ -65,7 +66,7 @@ fn nearest(cave: &Cave, befores: &[Option<usize>], last: Option<usize>, e: usize
 }
 
 // The ends that have none before them at their station.
-fn count_firsts(cave: &Cave, befores: &[Option<usize>]) -> usize
+fn count_firsts(cave: &Cave, befores: &[Option<u16>]) -> usize
     requires linked { Holds None (end_before cave.now.legs.now) befores.now (ends cave.now.legs.now) }
     requires room { ends cave.now.legs.now ≤ length befores.now }
     ensures { result ≡ stations_of cave.now.legs.now }

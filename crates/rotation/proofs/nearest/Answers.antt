@@ -17,7 +17,7 @@ loop-rest-init c = nearest_none c.args.cave.now.legs.now c.args.cave.now.valid c
 pub loop-rest-preserved : goal.loop-rest-preserved
 loop-rest-preserved c =
     let legs = c.args.cave.now.legs.now in
-    let k = c.in-Some.k in
+    let k = c.in-Some.end in
     let s : bound c.loop-rest.rest ≡ suc k = ap bound c.in-Some.is in
     let l = c.loop-rest.invariant.rest_le in
     let q = c.requires.linked k (omega arith) in
@@ -29,7 +29,7 @@ loop-rest-preserved c =
 
 pub loop-rest-smaller : goal.loop-rest-smaller
 loop-rest-smaller c =
-    let k = c.in-Some.k in
+    let k = c.in-Some.end in
     let s : bound c.loop-rest.rest ≡ suc k = ap bound c.in-Some.is in
     let l = c.loop-rest.invariant.rest_le in
     rest_falls c.args.cave.now.legs.now c.args.cave.now.valid c.args.e c.requires.inside k c.loop-rest.best c.loop-rest.least c.loop-rest.rest _ c.loop-rest.invariant s (c.requires.linked k (omega arith))

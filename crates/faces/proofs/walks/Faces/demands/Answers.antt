@@ -31,19 +31,16 @@ angle_face_lt legs valid e l = face_lt legs (distinct legs valid) (next legs e) 
 tallied_le : (keys : List ℕ) (chosen : List Bool) (n v : ℕ) → tallied keys chosen n v ≤ n
 tallied_le keys chosen n v = count_bound (λ k. get_or chosen k false && eqb (get_or keys k 0) v) n
 
-pub tally-requires : goal.tally-requires
-tally-requires c =
+pub tally-requires-clause-inside : goal.tally-requires-clause-inside
+tally-requires-clause-inside c k l =
     let cave = c.args.self.now.rotation.cave in
     let angles = holds_told 0 (angle_face cave.legs.now) (ends cave.legs.now) (omega arith) c.table-angles.ensures.told (λ e v l p. search rules) in
-    record {
-      keyed = omega arith;
-      chosen = omega arith;
-      inside = λ k l.
-          let a = angles k (omega arith) in
-          let b = angle_face_lt cave.legs.now cave.valid k (omega arith) in
-          omega arith;
-      blank = λ e l. get_or-replicate 512 e 0 0 l;
-    }
+    let a = angles k (omega arith) in
+    let b = angle_face_lt cave.legs.now cave.valid k (omega arith) in
+    omega arith
+
+pub tally-requires-clause-blank : goal.tally-requires-clause-blank
+tally-requires-clause-blank c e l = get_or-replicate 512 e 0 0 l
 
 pub table-requires : goal.table-requires
 table-requires c =

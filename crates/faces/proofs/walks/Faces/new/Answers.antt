@@ -1,5 +1,5 @@
 -- The table of steps is the face walk, and the names of its cycles are the faces.
-use Rattle.std.proofs.Common.{ℕ, get_or, sym, ap, ◌∙◌, subst, arith, rules}
+use Rattle.std.proofs.Common.{ℕ, get_or, sym, ap, ◌∙◌, subst, arith}
 use Rattle.survey.specs.Ends.{ends}
 use Rattle.embedding.specs.Walks.{lowest}
 use Rattle.embedding.specs.Laws.{Permutes}
@@ -9,20 +9,13 @@ use Rattle.embedding.proofs.Distinct.{distinct}
 use Rattle.embedding.proofs.Faces.{walks}
 use Rattle.faces.proofs.walks.Faces.new.Goals as goal
 
-pub name_cycles-requires : goal.name_cycles-requires
-name_cycles-requires c =
+pub name_cycles-requires-clause-permutes : goal.name_cycles-requires-clause-permutes
+name_cycles-requires-clause-permutes c =
     let legs = c.args.rotation.cave.legs.now in
-    record {
-      permutes = subst (Permutes (λ e. get_or c.steps.result e 0)) (sym c.ends.ensures) (permutes_same (ends legs) (face_step legs) _ (walks legs (distinct legs c.args.rotation.cave.valid)) c.steps.ensures);
-      stepped = omega arith;
-      room = omega arith;
-    }
+    subst (Permutes (λ e. get_or c.steps.result e 0)) (sym c.ends.ensures) (permutes_same (ends legs) (face_step legs) _ (walks legs (distinct legs c.args.rotation.cave.valid)) c.steps.ensures)
 
-pub invariant_of-result : goal.invariant_of-result
+pub invariant_of-result-clause-named : goal.invariant_of-result-clause-named
 unfolding face
-invariant_of-result c = record {
-  full = search rules;
-  named = λ e l.
-      let legs = c.args.rotation.cave.legs.now in
-      c.name_cycles.ensures e (omega arith) ∙ ap (λ (n : ℕ). lowest (λ x. get_or c.steps.result x 0) n e) c.ends.ensures ∙ lowest_same (ends legs) (face_step legs) _ (walks legs (distinct legs c.args.rotation.cave.valid)) c.steps.ensures (ends legs) e l;
-}
+invariant_of-result-clause-named c e l =
+    let legs = c.args.rotation.cave.legs.now in
+    c.name_cycles.ensures e (omega arith) ∙ ap (λ (n : ℕ). lowest (λ x. get_or c.steps.result x 0) n e) c.ends.ensures ∙ lowest_same (ends legs) (face_step legs) _ (walks legs (distinct legs c.args.rotation.cave.valid)) c.steps.ensures (ends legs) e l

@@ -8,8 +8,5 @@ use Rattle.rotation.proofs.rotations.Rotation.new.Goals as goal
 pub link-befores-requires-clause-blank : goal.link-befores-requires-clause-blank
 link-befores-requires-clause-blank c e l = get_or-replicate 10000 e None None l
 
-pub invariant_of-result : goal.invariant_of-result
-invariant_of-result c = record {
-  full = search rules;
-  follows = holds_told 0 (next c.args.cave.legs.now) _ (omega arith) c.table-nexts.ensures.told (λ e v l p. search rules);
-}
+pub invariant_of-result-clause-follows : goal.invariant_of-result-clause-follows
+invariant_of-result-clause-follows c = holds_told 0 (next c.args.cave.legs.now) _ (omega arith) c.table-nexts.ensures.told (λ e v l p. search rules)
