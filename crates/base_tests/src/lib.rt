@@ -3,7 +3,7 @@
 
 #[cfg(test)]
 mod tests {
-    use refusal::Refusal;
+    use refusal::number_and_value as told;
     use slice_vec::SliceVec;
     use std::test::Fail;
     use survey::Survey;
@@ -11,14 +11,6 @@ mod tests {
     use svx::fault::Layer;
     use svx::read;
     use table::SurveyTable;
-
-    // What a call answers: 0 and 0 where it is accepted.
-    fn told(r: Result<(), Refusal>) -> (u32, usize) {
-        match r {
-            Ok(()) => (0, 0),
-            Err(e) => (e.number(), e.value()),
-        }
-    }
 
     // What reading a text into an empty table answers: number, line, place, value, the text's own or not; and the legs then.
     fn outcome(text: &[u8]) -> (u32, usize, usize, usize, bool, usize) {
@@ -28,37 +20,22 @@ mod tests {
         match r {
             Ok(()) => (0, 0, 0, 0, false, n),
             Err(f) => {
-                let of_text = match f.layer {
-                    Layer::Text => true,
-                    Layer::Survey => false,
-                };
-                (f.number(), f.line, f.place, f.value(), of_text, n)
+                (f.number(), f.line, f.place, f.value(), f.layer == Layer::Text, n)
             }
-        }
-    }
-
-    fn leg(from: u32, to: u32, bearing: u32) -> Leg {
-        Leg {
-            from,
-            to,
-            bearing,
-            weight: 1,
-            wet: 0,
-            limit: 999,
         }
     }
 
     fn loop_of_three() -> SurveyTable {
         let mut t = SurveyTable::new();
-        let _ = t.enter(leg(1, 2, 0));
-        let _ = t.enter(leg(2, 3, 1200));
-        let _ = t.enter(leg(3, 1, 2400));
+        let _ = t.enter(Leg::plain(1, 2, 0));
+        let _ = t.enter(Leg::plain(2, 3, 1200));
+        let _ = t.enter(Leg::plain(3, 1, 2400));
         t
     }
 
     // Of a leg that is there.
     fn weight_and_from(t: &SurveyTable, i: usize) -> (u32, u32) {
-        match t.leg(i) {
+        match t.Leg::plain(i) {
             Ok(l) => (l.weight, l.from),
             Err(_) => (0, 0),
         }
@@ -102,11 +79,11 @@ mod tests {
     #[test]
     fn ranges(rt: HostRuntime) {
         let mut t = loop_of_three();
-        assert_eq!(rt; told(t.strike(3, 3)), (0, 0));
-        assert_eq!(rt; told(t.strike(2, 4)), (6, 3));
-        assert_eq!(rt; told(t.strike(2, 1)), (6, 3));
+        assert_eq!(rt; told(&t.strike(3, 3)), (0, 0));
+        assert_eq!(rt; told(&t.strike(2, 4)), (6, 3));
+        assert_eq!(rt; told(&t.strike(2, 1)), (6, 3));
         assert_eq!(rt;
-            told(t.amend(
+            told(&t.amend(
                 0,
                 2,
                 Attributes {
@@ -118,7 +95,7 @@ mod tests {
             (0, 0)
         );
         assert_eq!(rt;
-            told(t.amend(
+            told(&t.amend(
                 0,
                 2,
                 Attributes {
@@ -133,26 +110,26 @@ mod tests {
             (weight_and_from(&t, 1), weight_and_from(&t, 2)),
             ((5, 2), (1, 3))
         );
-        assert_eq!(rt; told(t.strike(1, 2)), (0, 0));
+        assert_eq!(rt; told(&t.strike(1, 2)), (0, 0));
         assert_eq!(rt; (t.count(), weight_and_from(&t, 1)), (2, (1, 3)));
     }
 
     #[test]
     fn enters(rt: HostRuntime) {
         let mut t = SurveyTable::new();
-        assert_eq!(rt; told(t.enter(leg(0, 2, 9999))), (1, 0));
-        assert_eq!(rt; told(t.enter(leg(4, 4, 9999))), (2, 4));
-        assert_eq!(rt; told(t.enter(leg(1, 2, 3600))), (3, 3600));
-        assert_eq!(rt; told(t.enter(leg(1, 2, 3599))), (0, 0));
-        assert_eq!(rt; told(t.enter(leg(2, 3, 1799))), (5, 0));
+        assert_eq!(rt; told(&t.enter(Leg::plain(0, 2, 9999))), (1, 0));
+        assert_eq!(rt; told(&t.enter(Leg::plain(4, 4, 9999))), (2, 4));
+        assert_eq!(rt; told(&t.enter(Leg::plain(1, 2, 3600))), (3, 3600));
+        assert_eq!(rt; told(&t.enter(Leg::plain(1, 2, 3599))), (0, 0));
+        assert_eq!(rt; told(&t.enter(Leg::plain(2, 3, 1799))), (5, 0));
         for i in 2..257 {
-            assert_eq!(rt; told(t.enter(leg(i, i + 1, 0))), (0, 0));
+            assert_eq!(rt; told(&t.enter(Leg::plain(i, i + 1, 0))), (0, 0));
         }
         assert_eq!(rt;
             (t.count(), t.may_enter(), t.may_amend()),
             (256, false, true)
         );
-        assert_eq!(rt; told(t.enter(leg(300, 301, 0))), (7, 256));
+        assert_eq!(rt; told(&t.enter(Leg::plain(300, 301, 0))), (7, 256));
     }
 
     #[test]
@@ -160,11 +137,11 @@ mod tests {
         let mut places = [7u32, 8];
         let mut v = SliceVec::new(&mut places);
         assert_eq!(rt; (v.len(), v.capacity()), (0, 2));
-        assert_eq!(rt; told(v.replace(0, 5)), (19, 0));
-        assert_eq!(rt; told(v.append(1)), (0, 0));
-        assert_eq!(rt; told(v.append(2)), (0, 0));
-        assert_eq!(rt; told(v.append(3)), (18, 2));
-        assert_eq!(rt; told(v.replace(1, 4)), (0, 0));
+        assert_eq!(rt; told(&v.replace(0, 5)), (19, 0));
+        assert_eq!(rt; told(&v.append(1)), (0, 0));
+        assert_eq!(rt; told(&v.append(2)), (0, 0));
+        assert_eq!(rt; told(&v.append(3)), (18, 2));
+        assert_eq!(rt; told(&v.replace(1, 4)), (0, 0));
         match v.read(1) {
             Ok(x) => {
                 assert_eq!(rt; x, 4);

@@ -5,6 +5,7 @@
 mod tests {
     use draw::drawing::draw;
     use draw::drawings::Drawing;
+    use embedding::outer::OuterSide;
     use plan::planning::plan;
     use plan::plans::Plan;
     use price::{Plain, PlainTariff, Ranked, RankedTariff};
@@ -33,7 +34,7 @@ mod tests {
         let _ = table.enter(legs[0]);
         let _ = table.enter(legs[1]);
         let _ = table.enter(legs[2]);
-        let _ = plan(&table, &mut made, 0, 0);
+        let _ = plan(&table, &mut made, OuterSide { leg: 0, side: 0 });
         made
     }
 
@@ -47,13 +48,9 @@ mod tests {
 
     // What a draw over so many labels, at most 8, tells, and the right bends of the three legs then.
     fn drawn(plan: Plan, labels: usize) -> ((u32, usize, i64), (u16, u16, u16), usize) {
-        let mut places = [Label {
-            price: Plain { value: 0 },
-            end: 0,
-        }; 8];
+        let mut places: [Label<Plain>; 8] = [Label::none(); 8];
         let mut drawing = Drawing::new();
-        let n = if labels < 8 { labels } else { 8 };
-        let mut vec = SliceVec::new(&mut places[0..n]);
+        let mut vec = SliceVec::new(&mut places[..labels.min(8)]);
         let answer = told(draw(plan, &PlainTariff, &mut vec, &mut drawing));
         (
             answer,
@@ -64,10 +61,7 @@ mod tests {
 
     #[test]
     fn one_leg(rt: HostRuntime) {
-        let mut places = [Label {
-            price: Plain { value: 0 },
-            end: 0,
-        }; 5];
+        let mut places: [Label<Plain>; 5] = [Label::none(); 5];
         let mut drawing = Drawing::new();
         let mut vec = SliceVec::new(&mut places);
         assert_eq!(rt;
@@ -75,8 +69,8 @@ mod tests {
             (0, 0, 0)
         );
         assert_eq!(rt; drawing.bends(), 0);
-        assert_eq!(rt; drawing.stations(), 2);
-        assert_eq!(rt; drawing.faces(), 1);
+        assert_eq!(rt; drawing.plan().stations(), 2);
+        assert_eq!(rt; drawing.plan().faces(), 1);
         assert_eq!(rt; drawing.large_at(1).unwrap_or(9), 0);
         assert_eq!(rt; drawing.large_at(2).unwrap_or(9), 1);
         assert_eq!(rt; drawing.large_at(3).unwrap_or(9), 9);
@@ -116,13 +110,7 @@ mod tests {
             leg(2, 3, 1200, 1, 1, 999),
             leg(3, 1, 2400, 9, 0, 999),
         ];
-        let mut places = [Label {
-            price: Ranked {
-                first: 0,
-                second: 0,
-            },
-            end: 0,
-        }; 7];
+        let mut places: [Label<Ranked>; 7] = [Label::none(); 7];
         let mut drawing = Drawing::new();
         let mut vec = SliceVec::new(&mut places);
         let price = match draw(loop_plan(legs), &RankedTariff, &mut vec, &mut drawing) {

@@ -1,6 +1,6 @@
 // The legs of a cave, and the ends of its legs.
 ghost use Rattle.std.specs.Prelude.{◌≡◌, ◌<◌, ◌≤◌, true, length};
-ghost use Rattle.survey.specs.Ends.{ends as ends_of, station as station_of, bearing as bearing_of, far_bearing as far_bearing_of};
+ghost use Rattle.survey.specs.Ends.{ends as ends_of, station as station_of, bearing as bearing_of};
 ghost use Rattle.survey.specs.Model.{valid_legs};
 ghost use Rattle.embedding.specs.Tables.{Holds};
 
@@ -13,13 +13,6 @@ pub struct Cave<'a> {
     pub legs: &'a [Leg],
     ghost valid: { valid_legs legs.now ≡ true },
     ghost few: { length legs.now ≤ 256 },
-}
-
-// The bearing at the leg's far end.
-fn far_bearing(leg: &Leg) -> u32
-    ensures { result ≡ far_bearing_of leg.now }
-{
-    ((u64::from(leg.bearing) + 1800) % 3600) as u32
 }
 
 impl<'a> Cave<'a> {
@@ -50,7 +43,7 @@ impl<'a> Cave<'a> {
         if e % 2 == 0 {
             leg.bearing
         } else {
-            far_bearing(leg)
+            leg.far_bearing()
         }
     }
 

@@ -3,40 +3,26 @@
 
 #[cfg(test)]
 mod tests {
+    use embedding::outer::OuterSide;
     use journal::SurveyJournal;
     use plan::planning::plan;
     use plan::plans::Plan;
     use plan::turning::turn;
     use plan_check::check_request;
-    use refusal::Refusal;
+    use refusal::number_and_value as told;
     use std::test::Fail;
     use survey::Survey;
     use survey::leg::{Change, Leg};
     use table::SurveyTable;
 
-    fn leg(from: u32, to: u32, bearing: u32) -> Leg {
-        Leg {
-            from,
-            to,
-            bearing,
-            weight: 1,
-            wet: 0,
-            limit: 999,
-        }
-    }
-
-    // The number and the value of an answer.
-    fn told(r: Result<(), Refusal>) -> (u32, usize) {
-        match r {
-            Ok(()) => (0, 0),
-            Err(e) => (e.number(), e.value()),
-        }
+    fn outer(leg: usize, side: u32) -> OuterSide {
+        OuterSide { leg, side }
     }
 
     fn survey_of(legs: &[Leg]) -> Result<SurveyTable, Fail> {
         let mut table = SurveyTable::new();
         for l in legs {
-            if told(table.enter(*l)) != (0, 0) {
+            if told(&table.enter(*l)) != (0, 0) {
                 return Err(Fail::new("the table takes each leg"));
             }
         }
@@ -46,30 +32,30 @@ mod tests {
     #[test]
     fn four_directions_at_a_station_are_refused(rt: HostRuntime) -> Result<(), Fail> {
         let table = survey_of(&[
-            leg(1, 2, 0),
-            leg(3, 1, 2700),
-            leg(1, 4, 1800),
-            leg(5, 1, 900),
+            Leg::plain(1, 2, 0),
+            Leg::plain(3, 1, 2700),
+            Leg::plain(1, 4, 1800),
+            Leg::plain(5, 1, 900),
         ])?;
         let mut held = Plan::new();
-        assert_eq!(rt; told(plan(&table, &mut held, 0, 0)), (13, 1));
+        assert_eq!(rt; told(&plan(&table, &mut held, outer(0, 0))), (13, 1));
         assert_eq!(rt; held.count(), 1);
         Ok(())
     }
 
     #[test]
     fn three_legs_side_by_side_are_refused(rt: HostRuntime) -> Result<(), Fail> {
-        let table = survey_of(&[leg(1, 2, 0), leg(1, 2, 100), leg(1, 2, 200)])?;
+        let table = survey_of(&[Leg::plain(1, 2, 0), Leg::plain(1, 2, 100), Leg::plain(1, 2, 200)])?;
         let mut held = Plan::new();
-        assert_eq!(rt; told(plan(&table, &mut held, 0, 0)), (14, 1));
+        assert_eq!(rt; told(&plan(&table, &mut held, outer(0, 0))), (14, 1));
         Ok(())
     }
 
     #[test]
     fn two_parts_are_refused(rt: HostRuntime) -> Result<(), Fail> {
-        let table = survey_of(&[leg(1, 2, 0), leg(3, 4, 0)])?;
+        let table = survey_of(&[Leg::plain(1, 2, 0), Leg::plain(3, 4, 0)])?;
         let mut held = Plan::new();
-        assert_eq!(rt; told(plan(&table, &mut held, 0, 0)), (12, 1));
+        assert_eq!(rt; told(&plan(&table, &mut held, outer(0, 0))), (12, 1));
         Ok(())
     }
 
@@ -77,16 +63,16 @@ mod tests {
     fn no_legs_or_too_many_are_refused(rt: HostRuntime) {
         let table = SurveyTable::new();
         let mut held = Plan::new();
-        assert_eq!(rt; told(plan(&table, &mut held, 0, 0)), (9, 0));
-        assert_eq!(rt; told(check_request(257, 300, 2)), (10, 257));
-        assert_eq!(rt; told(check_request(256, 256, 0)), (11, 256));
+        assert_eq!(rt; told(&plan(&table, &mut held, outer(0, 0))), (9, 0));
+        assert_eq!(rt; told(&check_request(257, outer(300, 2))), (10, 257));
+        assert_eq!(rt; told(&check_request(256, outer(256, 0))), (11, 256));
     }
 
     #[test]
     fn a_directed_loop_demands_one_less_than_none(rt: HostRuntime) -> Result<(), Fail> {
-        let table = survey_of(&[leg(1, 2, 0), leg(2, 3, 1200), leg(3, 1, 2400)])?;
+        let table = survey_of(&[Leg::plain(1, 2, 0), Leg::plain(2, 3, 1200), Leg::plain(3, 1, 2400)])?;
         let mut held = Plan::new();
-        assert_eq!(rt; told(plan(&table, &mut held, 0, 0)), (0, 0));
+        assert_eq!(rt; told(&plan(&table, &mut held, outer(0, 0))), (0, 0));
         assert_eq!(rt; held.stations(), 3);
         assert_eq!(rt; held.faces(), 2);
         assert_eq!(rt; held.demand(0), Some(1));
@@ -99,10 +85,10 @@ mod tests {
     fn a_path_of_256_legs_has_one_face(rt: HostRuntime) {
         let mut table = SurveyTable::new();
         for i in 1..257u32 {
-            assert_eq!(rt; told(table.enter(leg(i, i + 1, 0))), (0, 0));
+            assert_eq!(rt; told(&table.enter(Leg::plain(i, i + 1, 0))), (0, 0));
         }
         let mut held = Plan::new();
-        assert_eq!(rt; told(plan(&table, &mut held, 255, 1)), (0, 0));
+        assert_eq!(rt; told(&plan(&table, &mut held, outer(255, 1))), (0, 0));
         assert_eq!(rt; held.stations(), 257);
         assert_eq!(rt; held.faces(), 1);
         assert_eq!(rt; held.demand(511), Some(2));
@@ -113,19 +99,19 @@ mod tests {
         let mut entries = [Change::Strike { start: 0, end: 0 }; 257];
         let mut journal = SurveyJournal::new(&mut entries);
         for i in 1..258u32 {
-            assert_eq!(rt; told(journal.enter(leg(i, i + 1, 0))), (0, 0));
+            assert_eq!(rt; told(&journal.enter(Leg::plain(i, i + 1, 0))), (0, 0));
         }
         let mut held = Plan::new();
-        assert_eq!(rt; told(plan(&journal, &mut held, 0, 0)), (10, 257));
+        assert_eq!(rt; told(&plan(&journal, &mut held, outer(0, 0))), (10, 257));
         assert_eq!(rt; held.count(), 1);
     }
 
     #[test]
     fn a_plan_turns_or_is_handed_back(rt: HostRuntime) -> Result<(), Fail> {
-        match turn(Plan::new(), 0, 2) {
+        match turn(Plan::new(), outer(0, 2)) {
             Ok(_) => Err(Fail::new("turned to a side that no leg has")),
             Err(back) => {
-                assert_eq!(rt; told(Err(back.refusal)), (11, 1));
+                assert_eq!(rt; (back.refusal.number(), back.refusal.value()), (11, 1));
                 assert_eq!(rt; back.plan.outer_side(), 0);
                 Ok(())
             }

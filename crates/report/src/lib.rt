@@ -69,9 +69,10 @@ pub fn summary(drawing: &Drawing, out: &mut [u8]) -> Result<usize, Refusal>
     ensures answer { told_bytes result ≡ write_answer (length out.old) (drawing_text drawing.now) }
     ensures out { out.new ≡ written out.old (drawing_text drawing.now) }
 {
-    let stations = drawing.stations();
-    let faces = drawing.faces();
-    let text = summary_lines(stations, drawing.count(), faces, drawing.bends());
+    let plan = drawing.plan();
+    let stations = plan.stations();
+    let faces = plan.faces();
+    let text = summary_lines(stations, plan.count(), faces, drawing.bends());
     copy_text(text.as_str().as_bytes(), out)
 }
 

@@ -1,11 +1,7 @@
 -- Answers as the examples write them.
 use Rattle.std.specs.Prelude.{ℕ, cond, Some, None, Option, slice_index}
-use Rattle.refusal.specs.Answers.{Answer, refuses}
+use Rattle.refusal.specs.Answers.{Answer}
 use Rattle.survey.specs.Model.{is_accepted}
-
--- an answer with one value, as a pair
-abbrev pub told_as : ℕ × ℕ → Answer
-told_as p = refuses p.0 p.1
 
 -- the bearing in the answer to a query for a leg
 abbrev pub bearing_told : Answer → Option ℕ

@@ -3,46 +3,24 @@
 #![tactic(auto)]
 
 ghost use Rattle.std.specs.Prelude.{◌≡◌};
-ghost use Rattle.refusal.specs.Answers.{told as told_of};
-ghost use Rattle.survey.specs.Model.{plain_leg, query_answer};
-ghost use Rattle.survey_tests.specs.Examples.{told_as, bearing_told};
+ghost use Rattle.survey.specs.Model.{query_answer};
+ghost use Rattle.survey_tests.specs.Examples.{bearing_told};
 
-use refusal::Refusal;
 use survey::Survey;
-use survey::leg::Leg;
-
-// A leg of weight 1, dry, with limit 999.
-fn leg(from: u32, to: u32, bearing: u32) -> Leg
-    ensures { result ≡ plain_leg from to bearing }
-{
-    Leg::plain(from, to, bearing)
-}
-
-// An answer by number and value, 0 and 0 where the call is accepted.
-fn told(answer: Result<(), Refusal>) -> (u32, usize)
-    ensures { told_of answer ≡ told_as result }
-{
-    match answer {
-        Ok(()) => (0, 0),
-        Err(e) => (e.number(), e.value()),
-    }
-}
 
 // The bearing of leg i, or none.
 fn bearing<S: Survey>(s: &S, i: usize) -> Option<u32>
     ensures { result ≡ bearing_told (query_answer (S.legs s.now) i) }
 {
-    match s.leg(i) {
-        Ok(l) => Some(l.bearing),
-        Err(_) => None,
-    }
+    s.leg(i).ok().map(|l| l.bearing)
 }
 
 #[cfg(test)]
 mod tests {
     use super::*;
     use journal::SurveyJournal;
-    use survey::leg::{Attributes, Change};
+    use refusal::number_and_value as told;
+    use survey::leg::{Attributes, Change, Leg};
     use table::SurveyTable;
     use views::{Declination, Mirrored, Reversed, Viewed};
 
@@ -50,9 +28,9 @@ mod tests {
 
     // Bearing 3,599 is accepted and told again, and 3,600 is refused with its value.
     fn edge_of_bearings<S: Survey>(s: &mut S) -> bool {
-        told(s.enter(leg(1, 2, 3599))) == (0, 0)
+        told(&s.enter(Leg::plain(1, 2, 3599))) == (0, 0)
             && bearing(s, 0) == Some(3599)
-            && told(s.enter(leg(3, 4, 3600))) == (3, 3600)
+            && told(&s.enter(Leg::plain(3, 4, 3600))) == (3, 3600)
     }
 
     #[test]
@@ -102,13 +80,13 @@ mod tests {
     fn last_free_entry(rt: HostRuntime) {
         let mut entries = [UNUSED; 2];
         let mut journal = SurveyJournal::new(&mut entries);
-        assert!(rt; told(journal.enter(leg(1, 2, 0))) == (0, 0));
+        assert!(rt; told(&journal.enter(Leg::plain(1, 2, 0))) == (0, 0));
         assert!(rt; journal.may_enter() && journal.may_amend());
-        assert!(rt; told(journal.strike(1, 1)) == (0, 0));
+        assert!(rt; told(&journal.strike(1, 1)) == (0, 0));
         assert!(rt; !journal.may_enter() && !journal.may_amend());
-        assert!(rt; told(journal.enter(leg(3, 4, 0))) == (7, 1));
+        assert!(rt; told(&journal.enter(Leg::plain(3, 4, 0))) == (7, 1));
         assert!(rt;
-            told(journal.amend(
+            told(&journal.amend(
                 1,
                 1,
                 Attributes {
@@ -125,19 +103,19 @@ mod tests {
     fn ranges_at_the_end(rt: HostRuntime) {
         let mut entries = [UNUSED; 8];
         let mut journal = SurveyJournal::new(&mut entries);
-        assert!(rt; told(journal.enter(leg(1, 2, 0))) == (0, 0));
-        assert!(rt; told(journal.enter(leg(2, 3, 1200))) == (0, 0));
-        assert!(rt; told(journal.enter(leg(3, 1, 2400))) == (0, 0));
-        assert!(rt; told(journal.strike(3, 3)) == (0, 0));
-        assert!(rt; told(journal.strike(2, 4)) == (6, 3));
-        assert!(rt; told(journal.strike(1, 2)) == (0, 0));
+        assert!(rt; told(&journal.enter(Leg::plain(1, 2, 0))) == (0, 0));
+        assert!(rt; told(&journal.enter(Leg::plain(2, 3, 1200))) == (0, 0));
+        assert!(rt; told(&journal.enter(Leg::plain(3, 1, 2400))) == (0, 0));
+        assert!(rt; told(&journal.strike(3, 3)) == (0, 0));
+        assert!(rt; told(&journal.strike(2, 4)) == (6, 3));
+        assert!(rt; told(&journal.strike(1, 2)) == (0, 0));
         assert!(rt; bearing(&journal, 1) == Some(2400));
     }
 
     #[test]
     fn declination_past_the_circle(rt: HostRuntime) {
         let mut table = SurveyTable::new();
-        assert!(rt; told(table.enter(leg(1, 2, 3599))) == (0, 0));
+        assert!(rt; told(&table.enter(Leg::plain(1, 2, 3599))) == (0, 0));
         let same = Viewed {
             view: Declination::new(3600),
             below: &mut table,

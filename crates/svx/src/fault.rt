@@ -5,14 +5,14 @@ use refusal::Refusal;
 use svx_line::offer::Flaw;
 
 /// Whose refusal a fault is: the text's, or the survey's own.
-#[derive(Clone, Copy)]
+#[derive(Clone, Copy, Debug, PartialEq, Eq, Hash)]
 pub enum Layer {
     Text,
     Survey,
 }
 
 /// A fault in reading: the refusal, its line from 1, its byte place in the text from 0, and its layer.
-#[derive(Clone, Copy)]
+#[derive(Clone, Copy, Debug, PartialEq, Eq, Hash)]
 pub struct Fault {
     pub cause: Refusal,
     pub line: usize,

@@ -2,6 +2,7 @@
 use Rattle.std.specs.Prelude.{ℕ, Bool, true, false, cond, not, ◌&&◌, List, [], ◌∷◌, length, Some, None, codes, Option, ◌==◌}
 use Rattle.std.specs.Str.{bytes_eq}
 use Rattle.survey.specs.declared.leg.Leg.{Leg}
+use Rattle.survey.specs.Model.{plain_leg}
 use Rattle.svx_fields.specs.Fields.{station_field, compass_field, reading_field}
 use Rattle.svx_line.specs.Spans.{Span, field}
 
@@ -32,10 +33,6 @@ abbrev pub value_or_0 : Option ℕ → ℕ
 value_or_0 None = 0
 value_or_0 (Some n) = n
 
--- a leg as the text gives it
-abbrev pub text_leg : (from to bearing : ℕ) → Leg
-text_leg f t b = record { from = f; to = t; bearing = b; weight = 1; wet = 0; limit = 999 }
-
 -- from, to, tape, compass and clino, checked from left to right
 abbrev pub five_verdict : (from to tape compass clino : Span) → Verdict
 five_verdict f t a c k =
@@ -44,7 +41,7 @@ five_verdict f t a c k =
     (cond (not (reading_field a.bytes)) (bad 23 0 a.place)
     (cond (not (is_some (compass_field c.bytes))) (bad 23 0 c.place)
     (cond (not (reading_field k.bytes)) (bad 23 0 k.place)
-    (offers f.place (text_leg (value_or_0 (station_field f.bytes)) (value_or_0 (station_field t.bytes)) (value_or_0 (compass_field c.bytes))))))))
+    (offers f.place (plain_leg (value_or_0 (station_field f.bytes)) (value_or_0 (station_field t.bytes)) (value_or_0 (compass_field c.bytes))))))))
 
 -- so many fields, the first at a place, of a line that starts with no star
 abbrev pub leg_verdict : List Span → (count place : ℕ) → Verdict

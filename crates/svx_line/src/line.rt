@@ -82,14 +82,7 @@ fn leg(fields: &Fields, place: usize) -> Result<Option<Offer>, Flaw>
     }
     Ok(Some(Offer {
         place: from.place,
-        leg: Leg {
-            from: from_station,
-            to: to_station,
-            bearing,
-            weight: 1,
-            wet: 0,
-            limit: 999,
-        },
+        leg: Leg::plain(from_station, to_station, bearing),
     }))
 }
 
