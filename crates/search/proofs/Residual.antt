@@ -1,7 +1,7 @@
 -- The moves that a flow leaves, side by side: which move a side is, that every move can be tried, and that its end names it.
-use Rattle.std.proofs.Common.{◌≡◌, ℕ, ◌%◌, ◌<◌, ◌≤◌, Bool, true, false, cond, not, ◌&&◌, ◌||◌, eqb, ltb, ◌⊎◌, List, length, sym, refl, ap, ◌∙◌, subst, inl, inr, ⊎_elim, Option, Some, None, arith}
+use Rattle.std.proofs.Common.{◌≡◌, ℕ, ◌%◌, ◌<◌, ◌≤◌, Bool, true, false, cond, not, ◌&&◌, ◌||◌, eqb, ◌⊎◌, List, sym, refl, ap, ◌∙◌, subst, inl, inr, ⊎_elim, Option, Some, None, arith}
 use Rattle.std.specs.Option.{ForSome}
-use Rattle.std.proofs.lemmas.Bool.{cases_lt, cond-true, cond-false, cond_both, ne_eqb, lt-ltb, le-ltb}
+use Rattle.std.proofs.lemmas.Bool.{cases_lt, cond-true, cond-false, ne_eqb, lt-ltb, le-ltb}
 use Rattle.price.specs.Laws.{Ops, Laws}
 use Rattle.price.proofs.Order.{le_refl}
 use Rattle.search.specs.declared.Label.{Label}
@@ -135,10 +135,3 @@ module _ {P : Type 0} (ops : Ops P) (n : ℕ) (w : Network P) (side : ℕ → �
       let e = move_none ops w s (f (twin s)) (f s) k.0 k.1 in
       (λ i. from_at ops w side f (e i).target (e i).end) ∙ ap (λ (m : Move P). m.origin) (sym e)))
       (side_cases w f s)
-
-pub cost_small : {P : Type 0} {ops : Ops P} → Laws ops → (fee : P) (a : ℕ) → ops.size fee ≤ 2000 → ops.size (cost_of ops fee a) ≤ 2000
-cost_small {ops = ops} L fee a h = cond_both (ltb 0 a) (ops.minus fee) fee (λ z. ops.size z ≤ 2000) (λ _. let y = L.size_minus fee in omega arith) (λ _. h)
-
--- the twin of a side is a side
-pub twin_within : (n : ℕ) (sides : List Side) → Proper n sides → (s back : ℕ) → s < length sides → back ≡ twin s → (back < length sides) × (back < 2048)
-twin_within n sides proper s back b e = let t = twin_inside (length sides) s proper.even b in let f = proper.few in (omega arith, omega arith)

@@ -1,12 +1,7 @@
 -- The twin of a side: the other of its pair.
 use Rattle.std.proofs.Common.{◌≡◌, ℕ, ◌+◌, ◌-◌, ◌%◌, ◌<◌, ◌⊎◌, inl, inr, ⊎_elim, arith}
 use Rattle.std.proofs.lemmas.Bool.{cases_eq, cond-true, cond-false, eq-eqb, ne_eqb}
-use Rattle.pairs.specs.Pairs.{twin as other_of}
 use Rattle.search.specs.Networks.{twin}
-
-pub twin_by : (s r : ℕ) → r ≡ other_of s → r ≡ twin s
-unfolding twin
-twin_by s r e = e
 
 pub twin_even : (s : ℕ) → s % 2 ≡ 0 → twin s ≡ s + 1
 unfolding twin
