@@ -54,7 +54,10 @@ fn print_refusal(rt: &HostRuntime, cause: &Refusal, line: usize) -> io::Result<(
 // A fault in the text: the refusal, and where it is.
 fn refuse_text(rt: &HostRuntime, fault: &Fault) -> io::Result<ExitCode> {
     print_refusal(rt, &fault.cause, fault.line)?;
-    eprintln!(rt; "line {}, byte {}: {}", fault.line, fault.place, fault.cause)?;
+    eprintln!(rt;
+        "line {}, byte {}: {}",
+        fault.line, fault.place, fault.cause
+    )?;
     Ok(ExitCode::FAILURE)
 }
 

@@ -45,7 +45,11 @@ mod tests {
 
     #[test]
     fn three_legs_side_by_side_are_refused(rt: HostRuntime) -> Result<(), Fail> {
-        let table = survey_of(&[Leg::plain(1, 2, 0), Leg::plain(1, 2, 100), Leg::plain(1, 2, 200)])?;
+        let table = survey_of(&[
+            Leg::plain(1, 2, 0),
+            Leg::plain(1, 2, 100),
+            Leg::plain(1, 2, 200),
+        ])?;
         let mut held = Plan::new();
         assert_eq!(rt; told(&plan(&table, &mut held, outer(0, 0))), (14, 1));
         Ok(())
@@ -70,7 +74,11 @@ mod tests {
 
     #[test]
     fn a_directed_loop_demands_one_less_than_none(rt: HostRuntime) -> Result<(), Fail> {
-        let table = survey_of(&[Leg::plain(1, 2, 0), Leg::plain(2, 3, 1200), Leg::plain(3, 1, 2400)])?;
+        let table = survey_of(&[
+            Leg::plain(1, 2, 0),
+            Leg::plain(2, 3, 1200),
+            Leg::plain(3, 1, 2400),
+        ])?;
         let mut held = Plan::new();
         assert_eq!(rt; told(&plan(&table, &mut held, outer(0, 0))), (0, 0));
         assert_eq!(rt; held.stations(), 3);

@@ -17,10 +17,7 @@ const CAVES: u32 = 100;
 
 // The next number of the input, 0 where there is none.
 fn next(words: &mut SplitWhitespace) -> u32 {
-    words
-        .next()
-        .and_then(|word| word.parse().ok())
-        .unwrap_or(0)
+    words.next().and_then(|word| word.parse().ok()).unwrap_or(0)
 }
 
 // Enters so many legs of three numbers each; false where one is refused.

@@ -22,10 +22,7 @@ const UNUSED: Change = Change::Strike { start: 7, end: 3 };
 
 // The next number of the input, 0 where there is none.
 fn next(words: &mut SplitWhitespace) -> u32 {
-    words
-        .next()
-        .and_then(|word| word.parse().ok())
-        .unwrap_or(0)
+    words.next().and_then(|word| word.parse().ok()).unwrap_or(0)
 }
 
 fn next_six(words: &mut SplitWhitespace) -> [u32; 6] {

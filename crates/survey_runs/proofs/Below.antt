@@ -65,9 +65,9 @@ module _ {S : Type 0} (legs : S → List Leg) (enters amends : S → Bool) (lead
       let seen : Viewed Mirrored (MutBor S) → List Leg = λ u. map mirrored_shows (lent u.below) in
       let led : Viewed Mirrored (MutBor S) → List Change → Viewed Mirrored (MutBor S) → Type 0 = Through (λ (w : Mirrored). mirrored_sends) (Lent leads) in
       let x = below_sent (λ (u : Viewed Reversed (Viewed Mirrored (MutBor S))). map reversed_shows (seen u.below)) (λ u. enters u.below.below.now) (λ u. amends u.below.below.now) (Through (λ (w : Reversed). reversed_sends) led)
-          (λ xs. xs) (λ cs. cs) (λ (w : Declination). declination_shows w.turn) (λ (w : Declination). declination_sends w.turn) s before steps t h in
+      (λ xs. xs) (λ cs. cs) (λ (w : Declination). declination_shows w.turn) (λ (w : Declination). declination_sends w.turn) s before steps t h in
       let y = below_sent seen (λ u. enters u.below.now) (λ u. amends u.below.now) led
-          (top_shows d) (top_sends d) (λ (w : Reversed). reversed_shows) (λ (w : Reversed). reversed_sends) s.below before steps t.below x in
+      (top_shows d) (top_sends d) (λ (w : Reversed). reversed_shows) (λ (w : Reversed). reversed_sends) s.below before steps t.below x in
       let z = below_sent lent (λ u. enters u.now) (λ u. amends u.now) (Lent leads)
-          (upper_shows d) (upper_sends d) (λ (w : Mirrored). mirrored_shows) (λ (w : Mirrored). mirrored_sends) s.below.below before steps t.below.below y in
+      (upper_shows d) (upper_sends d) (λ (w : Mirrored). mirrored_shows) (λ (w : Mirrored). mirrored_sends) s.below.below before steps t.below.below y in
       lent_sent legs enters amends leads (stack_shows d) (stack_sends d) s.below.below.below before steps t.below.below.below z
