@@ -31,6 +31,7 @@ fn name_cycle(steps: &[usize], n: usize, names: &mut [usize], e: usize)
 {
     let mut at = e;
     // So many steps at most, so that the walk is seen to end.
+    // The count only bounds the walk, so that it is seen to end.
     for k in 0..n {
         at = name_one(steps, names, at, e);
         if at == e {
@@ -46,7 +47,9 @@ pub fn name_cycles(steps: &[usize], n: usize, names: &mut [usize])
     requires room { n ≤ length names.old }
     ensures { Holds 0 (cycle_name steps.now n) names.new n }
 {
+    // No name yet is n: each number has a name at the end, and an Option would stay in the type of the table.
     fill(names, n, |_| n);
+    // By number, since a walk writes the names of other numbers.
     for e in 0..n {
         if names[e] == n {
             name_cycle(steps, n, names, e);
@@ -72,6 +75,7 @@ pub fn tally(keys: &[usize], chosen: &[bool], n: usize, tallies: &mut [usize])
     ensures { Holds 0 (tallied keys.now chosen.now n) tallies.new (length tallies.old) }
 {
     // By number: the contract counts numbers, not the items of lists.
+    // By number, as the contract counts; both slices may be longer than n.
     for k in 0..n {
         if chosen[k] {
             count_one(tallies, keys[k]);

@@ -27,6 +27,7 @@ fn fill_face_units(nodes: &Nodes, outer: usize, wants: &mut [u16], gives: &mut [
     ensures gives { Holds 0 (plan_gives nodes.now.faces.rotation.cave.legs.now outer) gives.new (faces_of nodes.now.faces.rotation.cave.legs.now) }
 {
     let demands = nodes.faces.demands(outer);
+    // By end, since only an end that names its face has a node to fill.
     for e in 0..nodes.faces.rotation.cave.ends() {
         if nodes.faces.face(e) == e {
             let v = nodes.of_face(e) as usize;

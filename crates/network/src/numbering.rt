@@ -21,6 +21,7 @@ fn fill_ranks(marks: &[bool], n: usize, ranks: &mut [usize]) -> usize
 {
     let mut total = 0;
     // By number: each rank hangs on those before it, and the contract tells it by number.
+    // By number: the total runs on from place to place.
     for k in 0..n {
         ranks[k] = total;
         if marks[k] {
@@ -50,11 +51,13 @@ pub fn switches(cave: &Cave) -> [bool; 512]
     table(cave.ends(), false, |e| sources[e] | sinks[e])
 }
 
-// The lowest end of each station, or the number of ends.
+// The lowest end of each station. A station without ends, which nobody asks for, has the number of ends: an Option would only
+// have to be unwrapped.
 fn firsts(cave: &Cave) -> [usize; 10000]
     ensures { Holds 0 (lowest_from cave.now.legs.now 0) result 10000 }
 {
     let mut firsts = [cave.ends(); 10000];
+    // By end, the last first, so that the lowest stays.
     for e in (0..cave.ends()).rev() {
         firsts[cave.station(e) as usize] = e;
     }

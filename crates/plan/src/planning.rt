@@ -19,6 +19,7 @@ fn read_legs<S: Survey>(survey: &S) -> ArrayVec<Leg, 256>
     ensures { result.items ≡ S.legs survey.now }
 {
     let mut legs = ArrayVec::new();
+    // A survey tells its legs by number.
     for i in 0..survey.count() {
         if let Ok(leg) = survey.leg(i) {
             legs.push(leg);

@@ -104,7 +104,7 @@ impl Price for Ranked {
     }
 }
 
-// The sum of two numbers that are small enough.
+// The sum of two numbers that are small enough; with the sums written out in `add` the proof did not close.
 fn exact_sum(a: i64, b: i64) -> i64
     requires { unsigned_abs a + unsigned_abs b ≤ 2 ^ 40 }
     ensures { result ≡ a +ℤ b }

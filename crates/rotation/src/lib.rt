@@ -33,6 +33,7 @@ fn link(cave: &Cave, lasts: &mut [Option<u16>]) -> [Option<u16>; 512]
     ensures befores { Holds None (end_before cave.now.legs.now) result (ends cave.now.legs.now) }
 {
     let mut befores = [None; 512];
+    // By end: its number is what is stored.
     for e in 0..cave.ends() {
         let s = cave.station(e) as usize;
         befores[e] = lasts[s];

@@ -16,7 +16,8 @@ pub const NO_PRICE: u16 = 65535;
 /// The end of a label where the search begins.
 pub const ROOT: u16 = 65534;
 
-/// The best price so far at a node, and the end it came by.
+/// The best price so far at a node, and the end it came by: two single values, by a rule of the project, so that the lack of a
+/// price is one of the ends.
 #[derive(Clone, Copy, Debug, PartialEq, Eq, Hash)]
 pub struct Label<P> {
     pub price: P,

@@ -89,6 +89,7 @@ impl<'a, T: Tariff> Network<'a, T> {
         ensures lender { labels.new.places.ghost_name ≡ labels.old.places.ghost_name }
     {
         let mut changed = false;
+        // By number, which names the side's twin too.
         for s in 0..self.sides.len() {
             changed |= self.try_side(flow, labels, s);
         }

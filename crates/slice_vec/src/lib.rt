@@ -9,7 +9,7 @@ use refusal::Refusal;
 
 mod size;
 
-/// A lent slice of places, of which the first `used` are in use.
+/// A lent slice of places, of which the first `used` are in use: by a rule of the project it allocates nothing.
 #[derive(Drop)]
 pub struct SliceVec<'a, T> {
     places: &'a mut [T],

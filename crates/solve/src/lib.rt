@@ -143,6 +143,7 @@ fn is_tight<T: Tariff>(
     if side.node as usize != at || side.end != label.end {
         return false;
     }
+    // What came the other way is read once, for this test and for the cost.
     let back = network.twin(s);
     let came = flow[back];
     if came == 0 && flow[s] >= side.room {
@@ -183,7 +184,8 @@ fn is_supplied<T: Tariff>(
     false
 }
 
-// Sends one unit to v along its way back, and tells from which root.
+// Sends one unit to v along its way back, and tells from which root. The walk is that of `is_supplied`, which leaves the flow
+// alone: one walk for both would need a closure that reads the flow and one that writes it.
 fn send<T: Tariff>(
     network: &Network<'_, T>,
     flow: &mut [u16],
@@ -274,6 +276,7 @@ fn fill_nodes<T: Tariff>(
     ensures onward { Onward network.now.nodes (priced T.Price.Price.ops T.Tariff.rate network.now) (units wants.old) (units gives.old) (units flow.old) (units wants.new) (units gives.new) (units flow.new) }
     ensures less { total network.now.nodes gives.new ≤ total network.now.nodes gives.old }
 {
+    // By number, since it is the number of the node that is passed on.
     for v in 0..network.nodes {
         fill_node(network, flow, wants, gives, labels, came_by, v);
     }

@@ -11,7 +11,7 @@ pub struct Leg {
     pub bearing: u32,
     /// 0 to 1,000.
     pub weight: u32,
-    /// 1 where the leg is wet, else 0.
+    /// 1 where the leg is wet, else 0. It is a number, since every other number is refused with a cause.
     pub wet: u32,
     /// The most pairs of bends on the leg, 0 to 999.
     pub limit: u32,

@@ -60,6 +60,7 @@ pub fn read<S: Survey>(text: &[u8], survey: &mut S) -> Result<(), Fault>
         });
     }
     let mut reader = Reader::new(text);
+    // The reader is asked for the line's number too, so it is no iterator.
     while let Some(part) = reader.next_line() {
         read_line(part, reader.line, survey)?;
     }

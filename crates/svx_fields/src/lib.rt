@@ -43,6 +43,7 @@ fn number(s: &[u8]) -> u32
     ensures small { result < 10 ^ length s.now }
 {
     let mut n = 0;
+    // A fold's closure would have to say at each digit that the number is small.
     for b in s {
         n = n * 10 + u32::from(b - b'0');
     }
