@@ -4,6 +4,7 @@ ghost use Rattle.survey.specs.Ends.{ends as ends_of, station as station_of, bear
 ghost use Rattle.survey.specs.Model.{valid_legs};
 ghost use Rattle.embedding.specs.Tables.{Holds};
 
+use crate::ends::{end_bearing, end_station};
 use crate::tables::table;
 use survey::leg::Leg;
 
@@ -29,8 +30,7 @@ impl<'a> Cave<'a> {
         ensures at { result ≡ station_of self.now.legs.now e }
         ensures within { result < 10000 }
     {
-        let leg = &self.legs[e / 2];
-        if e % 2 == 0 { leg.from } else { leg.to }
+        end_station(self.legs, e)
     }
 
     /// The bearing of an end, seen from its station.
@@ -39,12 +39,7 @@ impl<'a> Cave<'a> {
         ensures at { result ≡ bearing_of self.now.legs.now e }
         ensures within { result < 3600 }
     {
-        let leg = &self.legs[e / 2];
-        if e % 2 == 0 {
-            leg.bearing
-        } else {
-            leg.far_bearing()
-        }
+        end_bearing(self.legs, e)
     }
 
     /// The station of each end, as a table.

@@ -4,6 +4,7 @@
 ghost use Rattle.embedding.specs.Laws.{EmbeddingStands};
 
 pub mod cave;
+pub mod ends;
 pub mod outer;
 pub mod tables;
 

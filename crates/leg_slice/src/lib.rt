@@ -8,8 +8,8 @@ ghost use Rattle.survey.specs.Model.{amended, with_attributes};
 use arrayvec::ArrayVec;
 use survey::leg::{Attributes, Leg};
 
-// Sets the attributes of each leg.
-fn amend_all(legs: &mut [Leg], attributes: Attributes)
+/// Sets the attributes of each leg.
+pub fn amend_all(legs: &mut [Leg], attributes: Attributes)
     ensures { legs.new ≡ map (with_attributes attributes) legs.old }
 {
     for leg in legs {

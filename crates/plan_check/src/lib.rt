@@ -51,7 +51,7 @@ fn check_connected(cave: &Cave) -> Result<(), Refusal>
     requires { 0 < length cave.now.legs.now }
     ensures { told result ≡ connected_answer cave.now.legs.now }
 {
-    first_apart(cave).map_or(Ok(()), |i| Err(Refusal::NotConnected(i)))
+    first_apart(cave.legs).map_or(Ok(()), |i| Err(Refusal::NotConnected(i)))
 }
 
 // Every station is bimodal.

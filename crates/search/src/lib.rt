@@ -2,10 +2,13 @@
 #![tactic(auto)]
 
 ghost use Rattle.std.specs.Prelude.{◌≡◌, ◌+◌, ◌^◌, ◌<◌, ◌≤◌, length, slice_set};
+ghost use Rattle.std.specs.Option.{ForSome};
 ghost use Rattle.slice_vec.specs.Places.{at_item};
 ghost use Rattle.search.specs.Labels.{first_of, blank, label_at, below, improves, tried};
+ghost use Rattle.search.specs.Networks.{cost_of};
+ghost use Rattle.search.specs.Sides.{fee_of};
 
-use price::Price;
+use price::{Price, Tariff};
 use slice_vec::SliceVec;
 
 pub mod network;
@@ -117,4 +120,28 @@ fn beats<P: Price>(price: P, label: Label<P>) -> bool
     ensures { result ≡ below P.Price.ops label price }
 {
     label.end == NO_PRICE || !label.price.at_most(price)
+}
+
+/// What one unit over a side costs: two bends, or nothing where the side has none.
+pub fn fee<T: Tariff>(tariff: &T, side: Side) -> T::Price
+    requires { ForSome side.bend (λ b. b.weight ≤ 1000) }
+    ensures value { result ≡ fee_of T.Price.Price.ops (T.Tariff.rate tariff.now) side }
+    ensures small { T.Price.Price.ops.size result ≤ 2000 }
+{
+    match side.bend {
+        Some(bend) => {
+            let price = tariff.bend_price(bend.weight, bend.wet);
+            price.add(price)
+        }
+        None => <T::Price as Price>::zero(),
+    }
+}
+
+/// What one unit over a side costs, where so many came the other way: it first takes back one that came, and its fee with it.
+pub fn step_cost<P: Price>(fee: P, back: u16) -> P
+    requires { P.Price.ops.size fee ≤ 2000 }
+    ensures value { result ≡ cost_of P.Price.ops fee back }
+    ensures small { P.Price.ops.size result ≤ 2000 }
+{
+    if back > 0 { fee.neg() } else { fee }
 }

@@ -1,7 +1,7 @@
 // The sides that a flow runs over, and a search among them.
 ghost use Rattle.search.specs.Sides.{Proper};
 
-use crate::{Label, Side, try_move};
+use crate::{Label, Side, fee, step_cost, try_move};
 use pairs::twin as other;
 use price::{Price, Tariff};
 use slice_vec::SliceVec;
@@ -33,29 +33,22 @@ impl<'a, T: Tariff> Network<'a, T> {
         other(s)
     }
 
-    /// What one unit over a side costs: two bends, or nothing where the side has none.
+    /// What one unit over side s costs.
     pub fn fee(&self, s: usize) -> T::Price
         requires { s < length self.now.sides.now }
         ensures value { result ≡ fee_of T.Price.Price.ops (T.Tariff.rate self.now.tariff.now) (side_at self.now.sides.now s) }
         ensures small { T.Price.Price.ops.size result ≤ 2000 }
     {
-        match self.sides[s].bend {
-            Some(bend) => {
-                let price = self.tariff.bend_price(bend.weight, bend.wet);
-                price.add(price)
-            }
-            None => <T::Price as Price>::zero(),
-        }
+        fee(self.tariff, self.sides[s])
     }
 
-    /// What one unit over a side costs, where so many came the other way: it first takes back one that came, and its fee with it.
+    /// What one unit over side s costs, where so many came the other way.
     pub fn step_cost(&self, s: usize, came: u16) -> T::Price
         requires { s < length self.now.sides.now }
         ensures value { result ≡ cost_of T.Price.Price.ops (fee_of T.Price.Price.ops (T.Tariff.rate self.now.tariff.now) (side_at self.now.sides.now s)) came }
         ensures small { T.Price.Price.ops.size result ≤ 2000 }
     {
-        let fee = self.fee(s);
-        if came > 0 { fee.neg() } else { fee }
+        step_cost(self.fee(s), came)
     }
 
     // Tries to lead on over side s, and tells whether the node it leads to has a better label.

@@ -7,16 +7,16 @@ use Rattle.plan_check.proofs.connect.spread.Goals as goal
 use Rattle.plan_check.proofs.connect.spread.Goals.{then-is_half_visited, else-is_half_visited}
 
 pub is_half_visited-requires : goal.is_half_visited-requires
-is_half_visited-requires c = let h = leg_stations c.args.cave.now.legs.now c.loop-leg.leg-index c.args.cave.now.valid (omega arith) in let a = h.0 in let b = h.1 in let n = c.loop-leg.invariant.long in (omega arith, omega arith)
+is_half_visited-requires c = let h = leg_stations c.args.legs.now c.loop-leg.leg-index c.requires.valid (omega arith) in let a = h.0 in let b = h.1 in let n = c.loop-leg.invariant.long in (omega arith, omega arith)
 
 pub visit_both-requires : goal.visit_both-requires
-visit_both-requires c = let h = leg_stations c.args.cave.now.legs.now c.loop-leg.leg-index c.args.cave.now.valid (omega arith) in let a = h.0 in let b = h.1 in let n = c.loop-leg.invariant.long in (omega arith, omega arith)
+visit_both-requires c = let h = leg_stations c.args.legs.now c.loop-leg.leg-index c.requires.valid (omega arith) in let a = h.0 in let b = h.1 in let n = c.loop-leg.invariant.long in (omega arith, omega arith)
 
 pub loop-leg-preserved : goal.loop-leg-preserved
 loop-leg-preserved c =
-    let legs = c.args.cave.now.legs.now in
+    let legs = c.args.legs.now in
     let i = c.loop-leg.leg-index in
-    let h = leg_stations legs i c.args.cave.now.valid (omega arith) in
+    let h = leg_stations legs i c.requires.valid (omega arith) in
     let n = c.loop-leg.invariant.long in
     let la : from_at legs i < length c.loop-leg.visited = let a = h.0 in omega arith in
     let lb : to_at legs i < length c.loop-leg.visited = let a = h.1 in omega arith in

@@ -3,4 +3,4 @@ use Rattle.plan_check.proofs.Spreading.{Kept}
 use Rattle.plan_check.proofs.connect.spread.Given as goal
 
 abbrev pub invariant-loop-leg : goal.invariant-loop-leg
-invariant-loop-leg l = Kept l.cave.legs.now l.initial.visited l.leg-index l.changed l.visited
+invariant-loop-leg l = Kept l.legs l.initial.visited l.leg-index l.changed l.visited

@@ -1,7 +1,7 @@
 -- Bearings of a valid list are below 3,600.
-use Rattle.std.proofs.lemmas.Bool.{cond-true, eq-eqb}
+use Rattle.std.proofs.Common.{arith}
 use Rattle.embedding.proofs.Distinct.{distinct}
 use Rattle.embedding.proofs.cave.Cave.bearing.Goals as goal
 
-pub returns-then-e-eq0-clause-within : goal.returns-then-e-eq0-clause-within
-returns-then-e-eq0-clause-within c = rw (cond-true _ _ _ (eq-eqb _ _ c.if-e-eq0.true)) at ((distinct c.args.self.now.legs.now c.args.self.now.valid).below c.args.e)
+pub returns-clause-within : goal.returns-clause-within
+returns-clause-within c = omega (arith, c.end_bearing.ensures, (distinct c.args.self.now.legs.now c.args.self.now.valid).below c.args.e)

@@ -1,0 +1,27 @@
+// The ends of a list of legs.
+ghost use Rattle.std.specs.Prelude.{◌≡◌, ◌<◌};
+ghost use Rattle.survey.specs.Ends.{ends, station, bearing};
+
+use survey::leg::Leg;
+
+/// The station at which an end stands.
+pub fn end_station(legs: &[Leg], e: usize) -> u32
+    requires { e < ends legs.now }
+    ensures { result ≡ station legs.now e }
+{
+    let leg = &legs[e / 2];
+    if e % 2 == 0 { leg.from } else { leg.to }
+}
+
+/// The bearing of an end, seen from its station.
+pub fn end_bearing(legs: &[Leg], e: usize) -> u32
+    requires { e < ends legs.now }
+    ensures { result ≡ bearing legs.now e }
+{
+    let leg = &legs[e / 2];
+    if e % 2 == 0 {
+        leg.bearing
+    } else {
+        leg.far_bearing()
+    }
+}
