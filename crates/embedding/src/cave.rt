@@ -9,7 +9,7 @@ use crate::tables::table;
 use survey::leg::Leg;
 
 /// A list of at most 256 legs that a survey can hold.
-#[derive(Clone, Copy)]
+#[derive(Clone, Copy, Debug)]
 pub struct Cave<'a> {
     pub legs: &'a [Leg],
     ghost valid: { valid_legs legs.now ≡ true },

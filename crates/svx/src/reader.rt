@@ -13,7 +13,7 @@ fn find_line_feed(s: &[u8]) -> Option<usize>
 }
 
 /// Reads a lent text line by line: the place of the next line, and the number of the line read last.
-#[derive(Clone, Copy)]
+#[derive(Clone, Copy, Debug)]
 pub(crate) struct Reader<'a> {
     pub(crate) text: &'a [u8],
     pub(crate) place: usize,

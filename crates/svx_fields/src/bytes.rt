@@ -1,5 +1,5 @@
 /// The classes of bytes in a survey text.
-#[derive(Clone, Copy, PartialEq, Eq)]
+#[derive(Clone, Copy, Debug, PartialEq, Eq)]
 pub enum ByteClass {
     /// A space, a tab or a carriage return.
     Blank,

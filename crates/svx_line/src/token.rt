@@ -4,7 +4,7 @@ ghost use Rattle.svx_line.specs.Parts.{span_of};
 use crate::part::Part;
 
 /// A token of a line, borrowed from the text.
-#[derive(Clone, Copy)]
+#[derive(Clone, Copy, Debug, PartialEq, Eq)]
 pub enum Token<'a> {
     Field(Part<'a>),
     /// A field that starts with a star.
