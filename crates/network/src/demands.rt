@@ -39,15 +39,14 @@ fn fill_face_units(nodes: &Nodes, outer: usize, wants: &mut [u16], gives: &mut [
 
 // A source or sink wants nothing, and gives one unit.
 fn fill_switch_units(faces: usize, nodes: usize, wants: &mut [u16], gives: &mut [u16])
+    requires order { faces ≤ nodes }
     requires wants { nodes ≤ length wants.old }
     requires gives { nodes ≤ length gives.old }
     ensures wants { (v : ℕ) → v < nodes → units wants.new v ≡ (if nat_lt v faces then units wants.old v else 0) }
     ensures gives { (v : ℕ) → v < nodes → units gives.new v ≡ (if nat_lt v faces then units gives.old v else 1) }
 {
-    for v in faces..nodes {
-        wants[v] = 0;
-        gives[v] = 1;
-    }
+    wants[faces..nodes].fill(0);
+    gives[faces..nodes].fill(1);
 }
 
 /// What all nodes want and give, where this face is the outer one.
