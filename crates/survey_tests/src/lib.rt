@@ -77,6 +77,17 @@ mod tests {
     }
 
     #[test]
+    fn bearings_of_a_journal_held_by_a_view(rt: HostRuntime) {
+        let mut entries = [UNUSED; 2];
+        let mut seen = Viewed {
+            view: Mirrored,
+            below: SurveyJournal::new(&mut entries),
+        };
+        assert!(rt; edge_of_bearings(&mut seen));
+        assert!(rt; bearing(&seen.below, 0) == Some(1));
+    }
+
+    #[test]
     fn last_free_entry(rt: HostRuntime) {
         let mut entries = [UNUSED; 2];
         let mut journal = SurveyJournal::new(&mut entries);
