@@ -35,7 +35,7 @@ mod tests {
 
     // Of a leg that is there.
     fn weight_and_from(t: &SurveyTable, i: usize) -> (u32, u32) {
-        match t.Leg::plain(i) {
+        match t.leg(i) {
             Ok(l) => (l.weight, l.from),
             Err(_) => (0, 0),
         }

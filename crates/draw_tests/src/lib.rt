@@ -5,7 +5,7 @@
 mod tests {
     use draw::drawing::draw;
     use draw::drawings::Drawing;
-    use embedding::outer::OuterSide;
+    use plan::OuterSide;
     use plan::planning::plan;
     use plan::plans::Plan;
     use price::{Plain, PlainTariff, Ranked, RankedTariff};

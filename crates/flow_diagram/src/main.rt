@@ -3,7 +3,7 @@
 
 use diagram::run;
 use draw::drawings::Drawing;
-use embedding::outer::OuterSide;
+use plan::OuterSide;
 use plan::plans::Plan;
 use price::{Plain, PlainTariff};
 use refusal::Refusal;

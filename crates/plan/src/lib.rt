@@ -5,3 +5,5 @@ pub mod planning;
 pub mod plans;
 pub mod readers;
 pub mod turning;
+
+pub use embedding::outer::OuterSide;

@@ -3,8 +3,8 @@
 
 #[cfg(test)]
 mod tests {
-    use embedding::outer::OuterSide;
     use journal::SurveyJournal;
+    use plan::OuterSide;
     use plan::planning::plan;
     use plan::plans::Plan;
     use plan::turning::turn;

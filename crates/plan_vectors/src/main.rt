@@ -1,7 +1,7 @@
 // Plans the caves of standard input and compares each answer with the one that stands after it.
 #![tactic(auto)]
 
-use embedding::outer::OuterSide;
+use plan::OuterSide;
 use plan::planning::plan;
 use plan::plans::Plan;
 use plan::turning::turn;
