@@ -327,8 +327,8 @@ fn judge(unmet: Option<usize>) -> Result<(), Infeasible>
     }
 }
 
-/// Finds a flow of least price that meets the demands, or tells that none does. Each node wants and gives as it has in
-/// `left`; side s may carry as many units as it has room for. What the flow leaves of the demands is told in their places.
+/// Finds a flow of least price that meets the demands of the nodes, or tells that none does. Side s may carry as many units as
+/// it has room for. What the flow leaves of the demands is told in their places.
 pub fn solve<T: Tariff>(
     network: &Network<'_, T>,
     flow: &mut [u16],

@@ -1,5 +1,5 @@
 -- What a unit sent and taken off the demands keeps.
-use Rattle.std.proofs.Common.{◌<◌, length, take, sym, subst, arith}
+use Rattle.std.proofs.Common.{◌<◌, take, sym, subst, arith}
 use Rattle.search.specs.Demands.{gives_of}
 use Rattle.search.specs.Labels.{label_at}
 use Rattle.search.specs.Networks.{units}
