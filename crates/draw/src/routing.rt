@@ -11,7 +11,7 @@ use embedding::cave::Cave;
 use network::fill_network;
 use price::Tariff;
 use search::network::Network;
-use search::{Label, Side};
+use search::{Demand, Label, Side};
 use slice_vec::SliceVec;
 use solve::{Infeasible, solve};
 
@@ -33,19 +33,12 @@ pub fn route<T: Tariff>(
     ensures long { length labels.new.places.now ≡ length labels.old.places.now }
     ensures lender { labels.new.places.ghost_name ≡ labels.old.places.ghost_name }
 {
-    let mut wants = [0; 1024];
-    let mut gives = [0; 1024];
-    let nodes = fill_network(cave, outer, sides, &mut wants, &mut gives);
+    let mut demands = [Demand::default(); 1024];
+    let nodes = fill_network(cave, outer, sides, &mut demands);
     let network = Network {
         tariff,
         sides,
         nodes,
     };
-    solve(
-        &network,
-        flow,
-        &mut wants[..nodes],
-        &mut gives[..nodes],
-        labels,
-    )
+    solve(&network, flow, &mut demands[..nodes], labels)
 }

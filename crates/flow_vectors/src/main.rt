@@ -7,7 +7,7 @@ ghost use Rattle.flow_vectors.specs.Networks.{side_from_lem};
 
 use price::{PlainTariff, RankedTariff, Tariff};
 use search::network::Network;
-use search::{Bend, Label, Side};
+use search::{Bend, Demand, Label, Side};
 use slice_vec::SliceVec;
 use solve::solve;
 
@@ -52,12 +52,15 @@ fn load(numbers: &[u32], nodes: usize, sides: &mut [Side])
     }
 }
 
-// Fills in what the nodes want (0) or give (1).
-fn demands(numbers: &[u32], which: usize, left: &mut [u16])
-    requires { (which < 2) × (length left.old ≤ 16) }
+// Fills in what the nodes want and give.
+fn demands(numbers: &[u32], left: &mut [Demand])
+    requires { length left.old ≤ 16 }
 {
-    for (v, units) in left.iter_mut().enumerate() {
-        *units = number(numbers, 2 * v + which).min(1000) as u16;
+    for (v, demand) in left.iter_mut().enumerate() {
+        *demand = Demand {
+            wants: number(numbers, 2 * v).min(1000) as u16,
+            gives: number(numbers, 2 * v + 1).min(1000) as u16,
+        };
     }
 }
 
@@ -84,24 +87,15 @@ fn meets<T: Tariff>(
 ) -> bool
     requires { Proper nodes sides.now × (nodes ≤ 16) × (length flow.old ≡ length sides.now) × (nodes ≤ length places.old) }
 {
-    let mut wants = [0u16; NODES];
-    let mut gives = [0u16; NODES];
-    demands(numbers, 0, &mut wants);
-    demands(numbers, 1, &mut gives);
+    let mut left = [Demand::default(); NODES];
+    demands(numbers, &mut left);
     let mut labels = SliceVec::new(places);
     let network = Network {
         tariff,
         sides,
         nodes,
     };
-    solve(
-        &network,
-        flow,
-        &mut wants[..nodes],
-        &mut gives[..nodes],
-        &mut labels,
-    )
-    .is_ok()
+    solve(&network, flow, &mut left[..nodes], &mut labels).is_ok()
 }
 
 // Whether both kinds of price come out as given, for the network at the start of the numbers.

@@ -4,3 +4,4 @@ pub mod Paths
 pub mod Networks
 pub mod Sides
 pub mod Priced
+pub mod Demands

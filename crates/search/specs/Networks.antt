@@ -8,7 +8,7 @@ use Rattle.search.specs.Moves.{Move}
 unfoldable pub twin : ℕ → ℕ
 twin s = other_of s
 
--- how many units side s carries, or node s wants or gives
+-- how many units side s carries
 abbrev pub units : List ℕ → ℕ → ℕ
 units xs s = slice_index xs s
 

@@ -56,6 +56,13 @@ pub struct Side {
     pub bend: Option<Bend>,
 }
 
+/// How many units a node wants, and how many it gives.
+#[derive(Clone, Copy, Debug, Default, PartialEq, Eq, Hash)]
+pub struct Demand {
+    pub wants: u16,
+    pub gives: u16,
+}
+
 /// The label of a node; one without a price where no label in use is the node's.
 #[tactic(auto, using(crate::proofs::Front::held_at))]
 pub fn label_at<P: Price>(labels: &SliceVec<'_, Label<P>>, node: usize) -> Label<P>

@@ -1,5 +1,5 @@
 -- Units sent over a side, and along a chain of open sides back to a root.
-use Rattle.std.specs.Prelude.{◌≡◌, ℕ, zero, suc, ◌+◌, ◌-◌, ◌<◌, true, cond, List, length, ◌==◌, ◌≢◌, nat_lt, slice_set}
+use Rattle.std.specs.Prelude.{◌≡◌, ℕ, zero, suc, ◌+◌, ◌<◌, true, cond, List, length, ◌==◌, ◌≢◌, nat_lt}
 use Rattle.price.specs.Laws.{Ops}
 use Rattle.duality.specs.Sums.{sum}
 use Rattle.duality.specs.Flows.{into, out_of, Fits}
@@ -7,7 +7,7 @@ use Rattle.search.specs.declared.Label.{Label}
 use Rattle.search.specs.declared.Side.{Side}
 use Rattle.search.specs.Labels.{label_at, reached}
 use Rattle.search.specs.Paths.{Safe}
-use Rattle.search.specs.Networks.{twin, units, Network, cost_by, move, Open}
+use Rattle.search.specs.Networks.{twin, Network, cost_by, move, Open}
 use Rattle.search.specs.Sides.{side_at, CanOpen}
 use Rattle.solve.specs.Solutions.{arcs, OneWay, Leaves}
 
@@ -56,8 +56,8 @@ pub record Sent {P : Type 0} (ops : Ops P) (n : ℕ) (w : Network P) (label : �
   pub shift : Shift n w f f' u v
 
 -- roots at price zero where units are left to give, and no price elsewhere
-abbrev pub Seeded : {P : Type 0} → Ops P → List ℕ → List (Label P) → Type 0
-Seeded ops gives labels = (v : ℕ) → ((label_at ops labels v).price ≡ ops.zero) × ((label_at ops labels v).end ≡ cond (nat_lt 0 (units gives v)) 65534 65535)
+abbrev pub Seeded : {P : Type 0} → Ops P → (over : ℕ → ℕ) → List (Label P) → Type 0
+Seeded ops over labels = (v : ℕ) → ((label_at ops labels v).price ≡ ops.zero) × ((label_at ops labels v).end ≡ cond (nat_lt 0 (over v)) 65534 65535)
 
 -- `side v` is the side by whose end the label of v came, among those that can ever be open
 abbrev pub Indexed : {P : Type 0} → List Side → (ℕ → ℕ) → (ℕ → Label P) → Type 0
@@ -82,9 +82,9 @@ abbrev pub Onward : {P : Type 0} → ℕ → Network P → (short over f short' 
 Onward n w short over f short' over' f' = (p q : ℕ → ℕ) → Leaves n w p q short over f → Leaves n w p q short' over' f'
 
 -- one unit less at v
-abbrev pub less_one : List ℕ → ℕ → List ℕ
-less_one xs v = slice_set xs v (units xs v - 1)
+abbrev pub OneLess : (f f' : ℕ → ℕ) (v : ℕ) → Type 0
+OneLess f f' v = (m : ℕ) → f' m + one_at v m ≡ f m
 
 -- the units of the first n nodes
-abbrev pub total : ℕ → List ℕ → ℕ
-total n xs = sum 0 ◌+◌ n (units xs)
+abbrev pub total : ℕ → (ℕ → ℕ) → ℕ
+total n f = sum 0 ◌+◌ n f

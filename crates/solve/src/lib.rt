@@ -1,18 +1,19 @@
 // A least flow that meets the demands, by cheapest chains, at any tariff.
 #![tactic(auto)]
 
-ghost use Rattle.std.specs.Prelude.{◌≡◌, ℕ, ◌^◌, ◌<◌, ◌≤◌, true, false, ◌⊎◌, IfSome, IfNone, OnOk, OnErr, length, take};
+ghost use Rattle.std.specs.Prelude.{◌≡◌, ℕ, ◌^◌, ◌<◌, ◌≤◌, true, false, ◌⊎◌, IfSome, IfNone, IsTrue, IsFalse, OnOk, OnErr, length, take};
 ghost use Rattle.duality.specs.Flows.{Fits};
+ghost use Rattle.search.specs.Demands.{wants_of, gives_of};
 ghost use Rattle.search.specs.Labels.{label_at, reached, Sized};
 ghost use Rattle.search.specs.Networks.{twin as other, units};
 ghost use Rattle.search.specs.Sides.{side_at, CanOpen};
 ghost use Rattle.search.specs.Priced.{priced};
 ghost use Rattle.solve.specs.Solutions.{arcs, OneWay, NoFlow, Answered, Leaves, judged};
-ghost use Rattle.solve.specs.Chains.{Push, Tight, Way, Supplied, Sent, Seeded, Indexed, Underway, Labelled, Onward, less_one, total};
+ghost use Rattle.solve.specs.Chains.{Push, Tight, Way, Supplied, Sent, Seeded, Indexed, Underway, Labelled, OneLess, Onward, total};
 
 use price::{Price, Tariff};
 use search::network::Network;
-use search::{Label, NO_PRICE, ROOT, label_at, make_labels, set_label};
+use search::{Demand, Label, NO_PRICE, ROOT, label_at, make_labels, set_label};
 use slice_vec::SliceVec;
 use std::error::Error;
 use std::fmt;
@@ -43,34 +44,45 @@ fn push<T: Tariff>(network: &Network<'_, T>, flow: &mut [u16], s: usize)
     }
 }
 
-// One unit less at node v.
-fn take_unit(left: &mut [u16], v: usize)
-    requires { (v < length left.old) × (0 < units left.old v) }
-    ensures { left.new ≡ less_one left.old v }
+// One unit less wanted at node v, and one less given at node u.
+fn take_unit(left: &mut [Demand], v: usize, u: usize)
+    requires wanted { (v < length left.old) × (0 < wants_of left.old v) }
+    requires given { (u < length left.old) × (0 < gives_of left.old u) }
+    ensures wants { OneLess (wants_of left.old) (wants_of left.new) v }
+    ensures gives { OneLess (gives_of left.old) (gives_of left.new) u }
 {
-    left[v] -= 1;
+    left[v].wants -= 1;
+    left[u].gives -= 1;
 }
 
-// The first node with units.
-fn first(left: &[u16]) -> Option<usize>
+// The first node that wants a unit.
+fn first_wanting(left: &[Demand]) -> Option<usize>
     ensures bound { IfSome result (λ v. v < length left.now) }
-    ensures before { IfSome result (λ v. (k : ℕ) → k < v → units left.now k ≡ 0) }
-    ensures some { IfSome result (λ v. 0 < units left.now v) }
-    ensures none { IfNone result ((v : ℕ) → v < length left.now → units left.now v ≡ 0) }
+    ensures before { IfSome result (λ v. (k : ℕ) → k < v → wants_of left.now k ≡ 0) }
+    ensures some { IfSome result (λ v. 0 < wants_of left.now v) }
+    ensures none { IfNone result ((v : ℕ) → v < length left.now → wants_of left.now v ≡ 0) }
 {
-    left.iter().position(|&units| units > 0)
+    left.iter().position(|demand| demand.wants > 0)
+}
+
+// Whether a node has units left to give.
+fn is_giving(left: &[Demand]) -> bool
+    ensures some { IsTrue result → (v : ℕ) × (v < length left.now) × (0 < gives_of left.now v) }
+    ensures none { IsFalse result → (v : ℕ) → v < length left.now → gives_of left.now v ≡ 0 }
+{
+    left.iter().any(|demand| demand.gives > 0)
 }
 
 // Roots at price zero where units are left to give, and no price elsewhere.
-fn seed<P: Price>(labels: &mut SliceVec<'_, Label<P>>, gives: &[u16])
-    requires { (length gives.now ≤ labels.old.used) × (length gives.now ≤ length labels.old.places.now) }
-    ensures seeded { Seeded P.Price.ops gives.now (take (length gives.now) labels.new.places.now) }
+fn seed<P: Price>(labels: &mut SliceVec<'_, Label<P>>, left: &[Demand])
+    requires { (length left.now ≤ labels.old.used) × (length left.now ≤ length labels.old.places.now) }
+    ensures seeded { Seeded P.Price.ops (gives_of left.now) (take (length left.now) labels.new.places.now) }
     ensures used { labels.new.used ≡ labels.old.used }
     ensures long { length labels.new.places.now ≡ length labels.old.places.now }
     ensures lender { labels.new.places.ghost_name ≡ labels.old.places.ghost_name }
 {
-    for (node, &units) in gives.iter().enumerate() {
-        let end = if units > 0 { ROOT } else { NO_PRICE };
+    for (node, demand) in left.iter().enumerate() {
+        let end = if demand.gives > 0 { ROOT } else { NO_PRICE };
         set_label(
             labels,
             node,
@@ -109,17 +121,15 @@ fn index_sides<T: Tariff>(
 }
 
 // The first labelled node that wants a unit.
-fn taker<P: Price>(labels: &SliceVec<'_, Label<P>>, wants: &[u16]) -> Option<usize>
-    requires { (length wants.now ≤ labels.now.used) × (length wants.now ≤ length labels.now.places.now) }
-    ensures bound { IfSome result (λ v. v < length wants.now) }
-    ensures before { IfSome result (λ v. (k : ℕ) → k < v → reached (label_at P.Price.ops (take (length wants.now) labels.now.places.now) k) ≡ true → units wants.now k ≡ 0) }
-    ensures some { IfSome result (λ v. (0 < units wants.now v) × (reached (label_at P.Price.ops (take (length wants.now) labels.now.places.now) v) ≡ true)) }
-    ensures none { IfNone result ((v : ℕ) → v < length wants.now → reached (label_at P.Price.ops (take (length wants.now) labels.now.places.now) v) ≡ true → units wants.now v ≡ 0) }
+fn taker<P: Price>(labels: &SliceVec<'_, Label<P>>, left: &[Demand]) -> Option<usize>
+    requires { (length left.now ≤ labels.now.used) × (length left.now ≤ length labels.now.places.now) }
+    ensures bound { IfSome result (λ v. v < length left.now) }
+    ensures before { IfSome result (λ v. (k : ℕ) → k < v → reached (label_at P.Price.ops (take (length left.now) labels.now.places.now) k) ≡ true → wants_of left.now k ≡ 0) }
+    ensures some { IfSome result (λ v. (0 < wants_of left.now v) × (reached (label_at P.Price.ops (take (length left.now) labels.now.places.now) v) ≡ true)) }
+    ensures none { IfNone result ((v : ℕ) → v < length left.now → reached (label_at P.Price.ops (take (length left.now) labels.now.places.now) v) ≡ true → wants_of left.now v ≡ 0) }
 {
-    wants
-        .iter()
-        .zip(labels.as_slice())
-        .position(|(&units, label)| units > 0 && label.end != NO_PRICE)
+    left.iter().zip(labels.as_slice()).position(|(demand, label)| demand.wants > 0
+        && label.end != NO_PRICE)
 }
 
 // Whether side s leads to node `at` by the end of its label, is open, and leads there at just the label's price.
@@ -160,20 +170,20 @@ fn is_tight<T: Tariff>(
 fn is_supplied<T: Tariff>(
     network: &Network<'_, T>,
     flow: &[u16],
-    gives: &[u16],
+    left: &[Demand],
     labels: &SliceVec<'_, Label<T::Price>>,
     came_by: &[u16],
     v: usize,
 ) -> bool
-    requires inside { (length flow.now ≡ length network.now.sides.now) × (length gives.now ≡ network.now.nodes) × (v < network.now.nodes) × (network.now.nodes ≤ length came_by.now) }
+    requires inside { (length flow.now ≡ length network.now.sides.now) × (length left.now ≡ network.now.nodes) × (v < network.now.nodes) × (network.now.nodes ≤ length came_by.now) }
     requires labels { (network.now.nodes ≤ labels.now.used) × (network.now.nodes ≤ length labels.now.places.now) }
     requires small { Sized T.Price.Price.ops network.now.nodes (2 ^ 38) labels.now.places.now }
-    ensures { result ≡ true → Supplied T.Price.Price.ops (priced T.Price.Price.ops T.Tariff.rate network.now) (units came_by.now) (label_at T.Price.Price.ops (take network.now.nodes labels.now.places.now)) (units flow.now) (units gives.now) v }
+    ensures { result ≡ true → Supplied T.Price.Price.ops (priced T.Price.Price.ops T.Tariff.rate network.now) (units came_by.now) (label_at T.Price.Price.ops (take network.now.nodes labels.now.places.now)) (units flow.now) (gives_of left.now) v }
 {
     let mut at = v;
     for _ in 0..network.nodes {
         if label_at(labels, at).end == ROOT {
-            return gives[at] > 0;
+            return left[at].gives > 0;
         }
         let s = came_by[at] as usize;
         if !is_tight(network, flow, labels, at, s) {
@@ -216,46 +226,43 @@ fn send<T: Tariff>(
 fn ship<T: Tariff>(
     network: &Network<'_, T>,
     flow: &mut [u16],
-    wants: &mut [u16],
-    gives: &mut [u16],
+    left: &mut [Demand],
     labels: &SliceVec<'_, Label<T::Price>>,
     came_by: &[u16],
     v: usize,
 )
-    requires inside { (length flow.old ≡ length network.now.sides.now) × (length wants.old ≡ network.now.nodes) × (length gives.old ≡ network.now.nodes) × (v < network.now.nodes) × (network.now.nodes ≤ length came_by.now) }
+    requires inside { (length flow.old ≡ length network.now.sides.now) × (length left.old ≡ network.now.nodes) × (v < network.now.nodes) × (network.now.nodes ≤ length came_by.now) }
     requires labels { (network.now.nodes ≤ labels.now.used) × (network.now.nodes ≤ length labels.now.places.now) }
     requires labelled { Labelled T.Price.Price.ops network.now.nodes (priced T.Price.Price.ops T.Tariff.rate network.now) (label_at T.Price.Price.ops (take network.now.nodes labels.now.places.now)) (units flow.old) }
-    requires some { (0 < units wants.old v) × Supplied T.Price.Price.ops (priced T.Price.Price.ops T.Tariff.rate network.now) (units came_by.now) (label_at T.Price.Price.ops (take network.now.nodes labels.now.places.now)) (units flow.old) (units gives.old) v }
+    requires some { (0 < wants_of left.old v) × Supplied T.Price.Price.ops (priced T.Price.Price.ops T.Tariff.rate network.now) (units came_by.now) (label_at T.Price.Price.ops (take network.now.nodes labels.now.places.now)) (units flow.old) (gives_of left.old) v }
     ensures labelled { Labelled T.Price.Price.ops network.now.nodes (priced T.Price.Price.ops T.Tariff.rate network.now) (label_at T.Price.Price.ops (take network.now.nodes labels.now.places.now)) (units flow.new) }
-    ensures onward { Onward network.now.nodes (priced T.Price.Price.ops T.Tariff.rate network.now) (units wants.old) (units gives.old) (units flow.old) (units wants.new) (units gives.new) (units flow.new) }
-    ensures want { wants.new ≡ less_one wants.old v }
-    ensures less { total network.now.nodes gives.new < total network.now.nodes gives.old }
+    ensures onward { Onward network.now.nodes (priced T.Price.Price.ops T.Tariff.rate network.now) (wants_of left.old) (gives_of left.old) (units flow.old) (wants_of left.new) (gives_of left.new) (units flow.new) }
+    ensures want { OneLess (wants_of left.old) (wants_of left.new) v }
+    ensures less { total network.now.nodes (gives_of left.new) < total network.now.nodes (gives_of left.old) }
 {
     let u = send(network, flow, labels, came_by, v);
-    take_unit(wants, v);
-    take_unit(gives, u);
+    take_unit(left, v, u);
 }
 
 // Sends units to v while it wants one and can be supplied.
 fn fill_node<T: Tariff>(
     network: &Network<'_, T>,
     flow: &mut [u16],
-    wants: &mut [u16],
-    gives: &mut [u16],
+    left: &mut [Demand],
     labels: &SliceVec<'_, Label<T::Price>>,
     came_by: &[u16],
     v: usize,
 )
-    requires inside { (length flow.old ≡ length network.now.sides.now) × (length wants.old ≡ network.now.nodes) × (length gives.old ≡ network.now.nodes) × (v < network.now.nodes) × (network.now.nodes ≤ length came_by.now) }
+    requires inside { (length flow.old ≡ length network.now.sides.now) × (length left.old ≡ network.now.nodes) × (v < network.now.nodes) × (network.now.nodes ≤ length came_by.now) }
     requires labels { (network.now.nodes ≤ labels.now.used) × (network.now.nodes ≤ length labels.now.places.now) }
     requires small { Sized T.Price.Price.ops network.now.nodes (2 ^ 38) labels.now.places.now }
     requires labelled { Labelled T.Price.Price.ops network.now.nodes (priced T.Price.Price.ops T.Tariff.rate network.now) (label_at T.Price.Price.ops (take network.now.nodes labels.now.places.now)) (units flow.old) }
     ensures labelled { Labelled T.Price.Price.ops network.now.nodes (priced T.Price.Price.ops T.Tariff.rate network.now) (label_at T.Price.Price.ops (take network.now.nodes labels.now.places.now)) (units flow.new) }
-    ensures onward { Onward network.now.nodes (priced T.Price.Price.ops T.Tariff.rate network.now) (units wants.old) (units gives.old) (units flow.old) (units wants.new) (units gives.new) (units flow.new) }
-    ensures less { total network.now.nodes gives.new ≤ total network.now.nodes gives.old }
+    ensures onward { Onward network.now.nodes (priced T.Price.Price.ops T.Tariff.rate network.now) (wants_of left.old) (gives_of left.old) (units flow.old) (wants_of left.new) (gives_of left.new) (units flow.new) }
+    ensures less { total network.now.nodes (gives_of left.new) ≤ total network.now.nodes (gives_of left.old) }
 {
-    while wants[v] > 0 && is_supplied(network, flow, gives, labels, came_by, v) {
-        ship(network, flow, wants, gives, labels, came_by, v);
+    while left[v].wants > 0 && is_supplied(network, flow, left, labels, came_by, v) {
+        ship(network, flow, left, labels, came_by, v);
     }
 }
 
@@ -263,22 +270,21 @@ fn fill_node<T: Tariff>(
 fn fill_nodes<T: Tariff>(
     network: &Network<'_, T>,
     flow: &mut [u16],
-    wants: &mut [u16],
-    gives: &mut [u16],
+    left: &mut [Demand],
     labels: &SliceVec<'_, Label<T::Price>>,
     came_by: &[u16],
 )
-    requires inside { (length flow.old ≡ length network.now.sides.now) × (length wants.old ≡ network.now.nodes) × (length gives.old ≡ network.now.nodes) × (network.now.nodes ≤ length came_by.now) }
+    requires inside { (length flow.old ≡ length network.now.sides.now) × (length left.old ≡ network.now.nodes) × (network.now.nodes ≤ length came_by.now) }
     requires labels { (network.now.nodes ≤ labels.now.used) × (network.now.nodes ≤ length labels.now.places.now) }
     requires small { Sized T.Price.Price.ops network.now.nodes (2 ^ 38) labels.now.places.now }
     requires labelled { Labelled T.Price.Price.ops network.now.nodes (priced T.Price.Price.ops T.Tariff.rate network.now) (label_at T.Price.Price.ops (take network.now.nodes labels.now.places.now)) (units flow.old) }
     ensures labelled { Labelled T.Price.Price.ops network.now.nodes (priced T.Price.Price.ops T.Tariff.rate network.now) (label_at T.Price.Price.ops (take network.now.nodes labels.now.places.now)) (units flow.new) }
-    ensures onward { Onward network.now.nodes (priced T.Price.Price.ops T.Tariff.rate network.now) (units wants.old) (units gives.old) (units flow.old) (units wants.new) (units gives.new) (units flow.new) }
-    ensures less { total network.now.nodes gives.new ≤ total network.now.nodes gives.old }
+    ensures onward { Onward network.now.nodes (priced T.Price.Price.ops T.Tariff.rate network.now) (wants_of left.old) (gives_of left.old) (units flow.old) (wants_of left.new) (gives_of left.new) (units flow.new) }
+    ensures less { total network.now.nodes (gives_of left.new) ≤ total network.now.nodes (gives_of left.old) }
 {
     // By number, since it is the number of the node that is passed on.
     for v in 0..network.nodes {
-        fill_node(network, flow, wants, gives, labels, came_by, v);
+        fill_node(network, flow, left, labels, came_by, v);
     }
 }
 
@@ -286,29 +292,28 @@ fn fill_nodes<T: Tariff>(
 fn advance<T: Tariff>(
     network: &Network<'_, T>,
     flow: &mut [u16],
-    wants: &mut [u16],
-    gives: &mut [u16],
+    left: &mut [Demand],
     labels: &mut SliceVec<'_, Label<T::Price>>,
     came_by: &mut [u16],
 ) -> Result<(), Infeasible>
-    requires inside { (length flow.old ≡ length network.now.sides.now) × (length wants.old ≡ network.now.nodes) × (length gives.old ≡ network.now.nodes) × (network.now.nodes ≤ 512) × (network.now.nodes ≤ length came_by.old) }
+    requires inside { (length flow.old ≡ length network.now.sides.now) × (length left.old ≡ network.now.nodes) × (network.now.nodes ≤ 512) × (network.now.nodes ≤ length came_by.old) }
     requires labels { (network.now.nodes ≤ labels.old.used) × (network.now.nodes ≤ length labels.old.places.now) }
     requires underway { Underway T.Price.Price.ops network.now.nodes (priced T.Price.Price.ops T.Tariff.rate network.now) (units flow.old) }
-    requires some { (v : ℕ) × (v < network.now.nodes) × (0 < units gives.old v) }
+    requires some { (v : ℕ) × (v < network.now.nodes) × (0 < gives_of left.old v) }
     ensures underway { Underway T.Price.Price.ops network.now.nodes (priced T.Price.Price.ops T.Tariff.rate network.now) (units flow.new) }
-    ensures onward { Onward network.now.nodes (priced T.Price.Price.ops T.Tariff.rate network.now) (units wants.old) (units gives.old) (units flow.old) (units wants.new) (units gives.new) (units flow.new) }
-    ensures less { OnOk result (total network.now.nodes gives.new < total network.now.nodes gives.old) }
-    ensures stuck { OnErr result ((p q : ℕ → ℕ) → Leaves network.now.nodes (priced T.Price.Price.ops T.Tariff.rate network.now) p q (units wants.old) (units gives.old) (units flow.old) → NoFlow network.now.nodes (priced T.Price.Price.ops T.Tariff.rate network.now) p q) }
+    ensures onward { Onward network.now.nodes (priced T.Price.Price.ops T.Tariff.rate network.now) (wants_of left.old) (gives_of left.old) (units flow.old) (wants_of left.new) (gives_of left.new) (units flow.new) }
+    ensures less { OnOk result (total network.now.nodes (gives_of left.new) < total network.now.nodes (gives_of left.old)) }
+    ensures stuck { OnErr result ((p q : ℕ → ℕ) → Leaves network.now.nodes (priced T.Price.Price.ops T.Tariff.rate network.now) p q (wants_of left.old) (gives_of left.old) (units flow.old) → NoFlow network.now.nodes (priced T.Price.Price.ops T.Tariff.rate network.now) p q) }
     ensures used { labels.new.used ≡ labels.old.used }
     ensures long { length labels.new.places.now ≡ length labels.old.places.now }
     ensures lender { labels.new.places.ghost_name ≡ labels.old.places.ghost_name }
 {
-    seed(labels, gives);
+    seed(labels, left);
     network.settle(flow, labels);
-    let v = taker(labels, wants).ok_or(Infeasible)?;
+    let v = taker(labels, left).ok_or(Infeasible)?;
     index_sides(network, labels, came_by);
-    ship(network, flow, wants, gives, labels, came_by, v);
-    fill_nodes(network, flow, wants, gives, labels, came_by);
+    ship(network, flow, left, labels, came_by, v);
+    fill_nodes(network, flow, left, labels, came_by);
     Ok(())
 }
 
@@ -322,27 +327,26 @@ fn judge(unmet: Option<usize>) -> Result<(), Infeasible>
     }
 }
 
-/// Finds a flow of least price that meets the demands, or tells that none does. Node v wants `wants[v]` units and gives `gives[v]`;
-/// side s may carry as many units as it has room for. What the flow leaves of the demands is told in their places.
+/// Finds a flow of least price that meets the demands of the nodes, or tells that none does. Side s may carry as many units as
+/// it has room for. What the flow leaves of the demands is told in their places.
 pub fn solve<T: Tariff>(
     network: &Network<'_, T>,
     flow: &mut [u16],
-    wants: &mut [u16],
-    gives: &mut [u16],
+    left: &mut [Demand],
     labels: &mut SliceVec<'_, Label<T::Price>>,
 ) -> Result<(), Infeasible>
-    requires inside { (length flow.old ≡ length network.now.sides.now) × (length wants.old ≡ network.now.nodes) × (length gives.old ≡ network.now.nodes) × (network.now.nodes ≤ 512) }
+    requires inside { (length flow.old ≡ length network.now.sides.now) × (length left.old ≡ network.now.nodes) × (network.now.nodes ≤ 512) }
     requires labels { network.now.nodes ≤ length labels.old.places.now }
-    ensures answered { Answered T.Price.Price.ops network.now.nodes (priced T.Price.Price.ops T.Tariff.rate network.now) (units wants.old) (units gives.old) (units flow.new) result }
-    ensures leaves { Leaves network.now.nodes (priced T.Price.Price.ops T.Tariff.rate network.now) (units wants.old) (units gives.old) (units wants.new) (units gives.new) (units flow.new) }
+    ensures answered { Answered T.Price.Price.ops network.now.nodes (priced T.Price.Price.ops T.Tariff.rate network.now) (wants_of left.old) (gives_of left.old) (units flow.new) result }
+    ensures leaves { Leaves network.now.nodes (priced T.Price.Price.ops T.Tariff.rate network.now) (wants_of left.old) (gives_of left.old) (wants_of left.new) (gives_of left.new) (units flow.new) }
     ensures long { length labels.new.places.now ≡ length labels.old.places.now }
     ensures lender { labels.new.places.ghost_name ≡ labels.old.places.ghost_name }
 {
     let mut came_by = [0u16; 512];
     flow.fill(0);
     make_labels(labels, network.nodes);
-    while first(gives).is_some() {
-        advance(network, flow, wants, gives, labels, &mut came_by)?;
+    while is_giving(left) {
+        advance(network, flow, left, labels, &mut came_by)?;
     }
-    judge(first(wants))
+    judge(first_wanting(left))
 }

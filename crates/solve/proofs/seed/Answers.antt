@@ -2,30 +2,31 @@
 use Rattle.std.proofs.Common.{◌≡◌, cond, ltb, List, length, take, sym, ap, ◌∙◌, subst, ⊎_elim, arith, length-set}
 use Rattle.std.proofs.lemmas.List.{get_or_past, length-take-le}
 use Rattle.std.proofs.lemmas.Bool.{cases_lt, cond-true, cond-false, lt-ltb, le-ltb}
+use Rattle.search.specs.declared.Demand.{Demand}
 use Rattle.search.specs.declared.Label.{Label}
+use Rattle.search.specs.Demands.{no_demand, gives_of}
 use Rattle.search.specs.Labels.{label_at, blank}
-use Rattle.search.specs.Networks.{units}
 use Rattle.search.proofs.Sweep.{at_set, front_at}
 use Rattle.solve.proofs.seed.Goals as goal
-use Rattle.solve.proofs.seed.Goals.{then-units-gt0, else-units-gt0}
+use Rattle.solve.proofs.seed.Goals.{then-demand-gt0, else-demand-gt0}
 
 pub loop-node-preserved : goal.loop-node-preserved
 loop-node-preserved g c =
     let o = g.P.Price.ops in
-    let gives = c.args.gives.now in
+    let over = gives_of c.args.left.now in
     let old = c.loop-node.labels.places.now in
-    let new : Label g.row.P.Denot = record { price = c.none.result.price; end = c.if-units-gt0.end } in
-    let end : c.if-units-gt0.end ≡ cond (ltb 0 (units gives c.loop-node.node)) 65534 65535 =
-    elim c.if-units-gt0.branch [
-      | then-units-gt0 w ↦ w.end-is ∙ sym (cond-true _ _ _ (lt-ltb 0 _ w.if-units-gt0.true))
-      | else-units-gt0 w ↦ w.end-is ∙ sym (cond-false _ _ _ (le-ltb 0 _ w.if-units-gt0.false))
+    let new : Label g.row.P.Denot = record { price = c.none.result.price; end = c.if-demand-gt0.end } in
+    let end : c.if-demand-gt0.end ≡ cond (ltb 0 (over c.loop-node.node)) 65534 65535 =
+    elim c.if-demand-gt0.branch [
+      | then-demand-gt0 w ↦ w.end-is ∙ sym (cond-true _ _ _ (lt-ltb 0 _ w.if-demand-gt0.true))
+      | else-demand-gt0 w ↦ w.end-is ∙ sym (cond-false _ _ _ (le-ltb 0 _ w.if-demand-gt0.false))
     ] in
     let put = c.set_label.ensures.places in (
-      λ k h. subst (λ (ls : List (Label g.row.P.Denot)). ((label_at o ls k).price ≡ o.zero) × ((label_at o ls k).end ≡ cond (ltb 0 (units gives k)) 65534 65535)) (sym put)
+      λ k h. subst (λ (ls : List (Label g.row.P.Denot)). ((label_at o ls k).price ≡ o.zero) × ((label_at o ls k).end ≡ cond (ltb 0 (over k)) 65534 65535)) (sym put)
           (⊎_elim
           (λ e. (
             ap (λ (m : Label g.row.P.Denot). m.price) e.1 ∙ ap (λ (m : Label g.row.P.Denot). m.price) c.none.ensures,
-            ap (λ (m : Label g.row.P.Denot). m.end) e.1 ∙ end ∙ ap (λ z. cond (ltb 0 (units gives z)) 65534 65535) (sym e.0),
+            ap (λ (m : Label g.row.P.Denot). m.end) e.1 ∙ end ∙ ap (λ z. cond (ltb 0 (over z)) 65534 65535) (sym e.0),
           ))
           (λ e.
           let ne = e.0 in
@@ -40,7 +41,7 @@ loop-node-preserved g c =
 pub returns : goal.returns
 returns g c =
     let o = g.P.Price.ops in
-    let n = length c.args.gives.now in
+    let n = length c.args.left.now in
     let places = c.loop-node.labels.places.now in
     record {
       seeded = λ v.
@@ -51,8 +52,8 @@ returns g c =
           (ap (λ (m : Label g.row.P.Denot). m.price) e ∙ was.0, ap (λ (m : Label g.row.P.Denot). m.end) e ∙ was.1))
           (λ b.
           let e : label_at o (take n places) v ≡ blank o = get_or_past (take n places) v (blank o) (omega (arith, length-take-le n places (omega (arith, c.loop-node.invariant.2, c.requires.1)))) in
-          let z : units c.args.gives.now v ≡ 0 = get_or_past c.args.gives.now v 0 b in
-          (ap (λ (m : Label g.row.P.Denot). m.price) e, ap (λ (m : Label g.row.P.Denot). m.end) e ∙ sym (cond-false _ _ _ (le-ltb 0 (units c.args.gives.now v) (omega arith)))))
+          let z : gives_of c.args.left.now v ≡ 0 = ap (λ (d : Demand). d.gives) (get_or_past c.args.left.now v no_demand b) in
+          (ap (λ (m : Label g.row.P.Denot). m.price) e, ap (λ (m : Label g.row.P.Denot). m.end) e ∙ sym (cond-false _ _ _ (le-ltb 0 (gives_of c.args.left.now v) (omega arith)))))
           (cases_lt v n);
       used = c.loop-node.invariant.1;
       long = c.loop-node.invariant.2;

@@ -5,12 +5,13 @@ use Rattle.std.specs.Result.{IsErr}
 use Rattle.std.proofs.lemmas.List.{get_or-replicate, get_or_past, length-replicate}
 use Rattle.std.proofs.lemmas.Bool.{cases_lt}
 use Rattle.price.specs.Laws.{Ops}
+use Rattle.search.specs.Demands.{wants_of, gives_of}
 use Rattle.search.specs.Networks.{Network, units}
 use Rattle.search.specs.Priced.{priced}
 use Rattle.search.proofs.Keys.{key}
 use Rattle.solve.specs.declared.Infeasible.{Infeasible}
 use Rattle.solve.specs.Solutions.{Best, NoFlow, Answered, judged}
-use Rattle.solve.proofs.Held.{net_sound, none_held}
+use Rattle.solve.proofs.Held.{net_sound}
 use Rattle.solve.proofs.Progress.{underway_start, leaves_start, met, unmet}
 use Rattle.solve.proofs.solve.Goals as goal
 
@@ -41,7 +42,7 @@ loop-came_by-init g c =
     let none = none_filled c.fill.new.self c.args.flow.now (c.fill.ensures.after (search rules)) in
     record {
       underway = underway_start L n w (key sides) sd f none;
-      leaves = leaves_start L n w (key sides) sd (units c.args.wants.now) (units c.args.gives.now) f none;
+      leaves = leaves_start L n w (key sides) sd (wants_of c.args.left.now) (gives_of c.args.left.now) f none;
       used = c.make_labels.ensures.used;
       long = refl;
       lender = refl;
@@ -70,13 +71,13 @@ returns-clause-answered g c =
     let sides = c.args.network.now.sides.now in
     let w = priced o g.T.Tariff.rate c.args.network.now in
     let sd = net_sound L g.T.Tariff.rate g.met.T.Tariff.low g.met.T.Tariff.small c.args.network.now in
-    let P = units c.args.wants.now in
-    let Q = units c.args.gives.now in
+    let P = wants_of c.args.left.now in
+    let Q = gives_of c.args.left.now in
     let inv = c.loop-came_by.invariant in
-    let short = units c.loop-came_by.wants in
-    let over = units c.loop-came_by.gives in
+    let short = wants_of c.loop-came_by.left in
+    let over = gives_of c.loop-came_by.left in
     let f = units c.loop-came_by.flow in
-    let given : (v : ℕ) → v < n → over v ≡ 0 = λ v b. none_held c.first.result (sym c.is_some.ensures ∙ c.loop-came_by-test.false) c.first.ensures.none v (omega (arith, c.requires.inside.2, c.loop-came_by.auto.gives)) in
-    answered_by c.first-2.result c.judge.result c.judge.ensures
-    (λ v e. unmet L n w (key sides) sd P Q short over f inv.leaves given v (let b = rw e at c.first-2.ensures.bound in omega (arith, c.requires.inside.1, c.loop-came_by.auto.wants)) (rw e at c.first-2.ensures.some))
-    (λ e. met L n w (key sides) sd P Q short over f inv.underway inv.leaves given (λ v b. (rw e at c.first-2.ensures.none) v (omega (arith, c.requires.inside.1, c.loop-came_by.auto.wants))))
+    let given : (v : ℕ) → v < n → over v ≡ 0 = λ v b. c.is_giving.ensures.none c.loop-came_by-test.false v (omega (arith, c.requires.inside.1, c.loop-came_by.auto.left)) in
+    answered_by c.first_wanting.result c.judge.result c.judge.ensures
+    (λ v e. unmet L n w (key sides) sd P Q short over f inv.leaves given v (let b = rw e at c.first_wanting.ensures.bound in omega (arith, c.requires.inside.1, c.loop-came_by.auto.left)) (rw e at c.first_wanting.ensures.some))
+    (λ e. met L n w (key sides) sd P Q short over f inv.underway inv.leaves given (λ v b. (rw e at c.first_wanting.ensures.none) v (omega (arith, c.requires.inside.1, c.loop-came_by.auto.left))))

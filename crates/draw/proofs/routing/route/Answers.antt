@@ -1,5 +1,7 @@
 -- The nodes are few, and what the solve finds of the network it finds of the shapes.
-use Rattle.std.proofs.Common.{◌≡◌, ℕ, List, take, sym, ◌∙◌, subst, arith, length-take-le, get_or-take}
+use Rattle.std.proofs.Common.{◌≡◌, ℕ, List, take, sym, ap, ◌∙◌, subst, arith, length-take-le, get_or-take}
+use Rattle.search.specs.declared.Demand.{Demand}
+use Rattle.search.specs.Demands.{no_demand, wants_of, gives_of}
 use Rattle.search.specs.Networks.{units}
 use Rattle.search.specs.Sides.{network, Proper}
 use Rattle.solve.specs.Solutions.{Answered}
@@ -12,11 +14,11 @@ use Rattle.shape.proofs.ProperSides.{proper}
 use Rattle.draw.proofs.Solved.{routed}
 use Rattle.draw.proofs.routing.route.Goals as goal
 
--- what the fronts hold, the nodes want and give
-front_demands : (legs : List Leg) (outer n : ℕ) (wants gives : List ℕ) → n ≡ nodes legs → HoldsDemands legs outer (units wants) (units gives) → HoldsDemands legs outer (units (take n wants)) (units (take n gives))
-front_demands legs outer n wants gives q h = record {
-  wants = λ v l. get_or-take n wants v 0 (omega arith) ∙ h.wants v l;
-  gives = λ v l. get_or-take n gives v 0 (omega arith) ∙ h.gives v l;
+-- what the front holds, the nodes want and give
+front_demands : (legs : List Leg) (outer n : ℕ) (demands : List Demand) → n ≡ nodes legs → HoldsDemands legs outer (wants_of demands) (gives_of demands) → HoldsDemands legs outer (wants_of (take n demands)) (gives_of (take n demands))
+front_demands legs outer n demands q h = record {
+  wants = λ v l. ap (λ (d : Demand). d.wants) (get_or-take n demands v no_demand (omega arith)) ∙ h.wants v l;
+  gives = λ v l. ap (λ (d : Demand). d.gives) (get_or-take n demands v no_demand (omega arith)) ∙ h.gives v l;
 }
 
 pub invariant_of-network : goal.invariant_of-network
@@ -24,17 +26,11 @@ invariant_of-network g c = record {
   proper = subst (λ (k : ℕ). Proper k c.fill_network-nodes.new.sides) (sym c.fill_network-nodes.ensures.nodes) (proper c.args.cave.now.legs.now c.args.cave.now.valid c.fill_network-nodes.new.sides c.fill_network-nodes.ensures.sides c.args.cave.now.few);
 }
 
-pub slice_bounds-wants-end : goal.slice_bounds-wants-end
-slice_bounds-wants-end g c = let f = few_nodes c.args.cave.now.legs.now c.requires.planar in omega (arith, c.fill_network-nodes.ensures.nodes, c.args.cave.now.few)
-
-pub slice_bounds-gives-end : goal.slice_bounds-gives-end
-slice_bounds-gives-end g c = let f = few_nodes c.args.cave.now.legs.now c.requires.planar in omega (arith, c.fill_network-nodes.ensures.nodes, c.args.cave.now.few)
+pub slice_bounds-demands-end : goal.slice_bounds-demands-end
+slice_bounds-demands-end g c = let f = few_nodes c.args.cave.now.legs.now c.requires.planar in omega (arith, c.fill_network-nodes.ensures.nodes, c.args.cave.now.few)
 
 pub slice_bounds-solve-end : goal.slice_bounds-solve-end
-slice_bounds-solve-end g c = sym (length-take-le _ c.fill_network-nodes.new.wants (let f = few_nodes c.args.cave.now.legs.now c.requires.planar in omega (arith, c.fill_network-nodes.ensures.nodes, c.args.cave.now.few)))
-
-pub slice_bounds-solve-end-2 : goal.slice_bounds-solve-end-2
-slice_bounds-solve-end-2 g c = sym (length-take-le _ c.fill_network-nodes.new.gives (let f = few_nodes c.args.cave.now.legs.now c.requires.planar in omega (arith, c.fill_network-nodes.ensures.nodes, c.args.cave.now.few)))
+slice_bounds-solve-end g c = sym (length-take-le _ c.fill_network-nodes.new.demands (let f = few_nodes c.args.cave.now.legs.now c.requires.planar in omega (arith, c.fill_network-nodes.ensures.nodes, c.args.cave.now.few)))
 
 pub solve-requires : goal.solve-requires
 solve-requires g c =
@@ -42,8 +38,7 @@ solve-requires g c =
     record {
       inside = (
         c.requires.flow ∙ sym c.fill_network-nodes.ensures.sides.count,
-        length-take-le _ c.fill_network-nodes.new.wants (omega (arith, c.fill_network-nodes.ensures.nodes, c.args.cave.now.few)),
-        length-take-le _ c.fill_network-nodes.new.gives (omega (arith, c.fill_network-nodes.ensures.nodes, c.args.cave.now.few)),
+        length-take-le _ c.fill_network-nodes.new.demands (omega (arith, c.fill_network-nodes.ensures.nodes, c.args.cave.now.few)),
         omega (arith, c.fill_network-nodes.ensures.nodes, c.args.cave.now.few),
       );
       labels = omega (arith, c.fill_network-nodes.ensures.nodes, c.requires.labels);
@@ -57,8 +52,8 @@ returns-clause-routed g c =
     let outer = face legs c.args.outer in
     let n = c.fill_network-nodes.result in
     let sides = c.fill_network-nodes.new.sides in
-    let P = units (take n c.fill_network-nodes.new.wants) in
-    let Q = units (take n c.fill_network-nodes.new.gives) in
-    let held = front_demands legs outer n c.fill_network-nodes.new.wants c.fill_network-nodes.new.gives c.fill_network-nodes.ensures.nodes c.fill_network-nodes.ensures.demands in
+    let P = wants_of (take n c.fill_network-nodes.new.demands) in
+    let Q = gives_of (take n c.fill_network-nodes.new.demands) in
+    let held = front_demands legs outer n c.fill_network-nodes.new.demands c.fill_network-nodes.ensures.nodes c.fill_network-nodes.ensures.demands in
     routed g.met.T.Price.Price.laws rate (g.met.T.Tariff.low c.args.tariff.now) legs outer sides P Q c.args.cave.now.valid c.requires.planar c.args.cave.now.few c.fill_network-nodes.ensures.sides held (units c.solve.new.flow) c.solve.result
     (subst (λ (k : ℕ). Answered o k (network o rate sides) P Q (units c.solve.new.flow) c.solve.result) c.fill_network-nodes.ensures.nodes c.solve.ensures.answered)

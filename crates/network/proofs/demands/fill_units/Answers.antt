@@ -12,4 +12,4 @@ fill_switch_units-requires c =
     let a = count_bound (names_face legs) (ends legs) in
     let b = count_bound (names_switch legs) (ends legs) in
     let n = nodes.counted in
-    record { order = omega arith; wants = omega arith; gives = omega arith }
+    record { order = omega arith; room = omega arith }
