@@ -20,7 +20,14 @@ mod tests {
         match r {
             Ok(()) => (0, 0, 0, 0, false, n),
             Err(f) => {
-                (f.number(), f.line, f.place, f.value(), f.layer == Layer::Text, n)
+                (
+                    f.number(),
+                    f.line,
+                    f.place,
+                    f.value(),
+                    f.layer == Layer::Text,
+                    n,
+                )
             }
         }
     }

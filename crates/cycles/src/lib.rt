@@ -30,7 +30,6 @@ fn name_cycle(steps: &[usize], n: usize, names: &mut [usize], e: usize)
     ensures { Holds 0 (named_below steps.now n (e + 1)) names.new n }
 {
     let mut at = e;
-    // So many steps at most, so that the walk is seen to end.
     // The count only bounds the walk, so that it is seen to end.
     for k in 0..n {
         at = name_one(steps, names, at, e);
@@ -74,7 +73,6 @@ pub fn tally(keys: &[usize], chosen: &[bool], n: usize, tallies: &mut [usize])
     requires blank { Holds 0 (λ _. 0) tallies.old (length tallies.old) }
     ensures { Holds 0 (tallied keys.now chosen.now n) tallies.new (length tallies.old) }
 {
-    // By number: the contract counts numbers, not the items of lists.
     // By number, as the contract counts; both slices may be longer than n.
     for k in 0..n {
         if chosen[k] {

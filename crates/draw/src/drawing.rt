@@ -54,8 +54,8 @@ pub fn draw<T: Tariff>(
     let mut flow = [0; 1536];
     let flow = &mut flow[..6 * count];
     let sides = &mut sides[..6 * count];
-    match route(&plan.cave(), plan.outer_end(), tariff, labels, sides, flow) {
-        Err(_) => Err(Refusal::NoShape),
-        Ok(()) => Ok(keep(plan, tariff, flow, drawing)),
-    }
+    route(&plan.cave(), plan.outer_end(), tariff, labels, sides, flow).map_err(
+        |_| Refusal::NoShape,
+    )?;
+    Ok(keep(plan, tariff, flow, drawing))
 }

@@ -48,7 +48,10 @@ mod tests {
 
     // What a draw over so many labels, at most 8, tells, and the right bends of the three legs then.
     fn drawn(plan: Plan, labels: usize) -> ((u32, usize, i64), (u16, u16, u16), usize) {
-        let mut places: [Label<Plain>; 8] = [Label::none(); 8];
+        let mut places = [Label {
+            price: Plain { value: 0 },
+            end: 0,
+        }; 8];
         let mut drawing = Drawing::new();
         let mut vec = SliceVec::new(&mut places[..labels.min(8)]);
         let answer = told(draw(plan, &PlainTariff, &mut vec, &mut drawing));
@@ -61,7 +64,10 @@ mod tests {
 
     #[test]
     fn one_leg(rt: HostRuntime) {
-        let mut places: [Label<Plain>; 5] = [Label::none(); 5];
+        let mut places = [Label {
+            price: Plain { value: 0 },
+            end: 0,
+        }; 5];
         let mut drawing = Drawing::new();
         let mut vec = SliceVec::new(&mut places);
         assert_eq!(rt;
@@ -110,7 +116,13 @@ mod tests {
             leg(2, 3, 1200, 1, 1, 999),
             leg(3, 1, 2400, 9, 0, 999),
         ];
-        let mut places: [Label<Ranked>; 7] = [Label::none(); 7];
+        let mut places = [Label {
+            price: Ranked {
+                first: 0,
+                second: 0,
+            },
+            end: 0,
+        }; 7];
         let mut drawing = Drawing::new();
         let mut vec = SliceVec::new(&mut places);
         let price = match draw(loop_plan(legs), &RankedTariff, &mut vec, &mut drawing) {

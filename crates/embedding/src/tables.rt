@@ -10,7 +10,6 @@ pub fn fill<T: Copy, F: Fn(usize) -> T>(table: &mut [T], n: usize, f: F)
     ensures told { Tells (F.post f) table.new n }
     ensures rest { (d : T) (e : ℕ) → n ≤ e → slice_index_or table.new e d ≡ slice_index_or table.old e d }
 {
-    // By index, since f is asked by index.
     // By index, which the closure is asked for; over `iter_mut().enumerate()` the proof did not close.
     for e in 0..n {
         table[e] = f(e);

@@ -5,13 +5,27 @@ ghost use Rattle.std.specs.Prelude.{◌≡◌, ◌%◌, ◌<◌, ◌≤◌, leng
 ghost use Rattle.search.specs.Sides.{Proper};
 ghost use Rattle.flow_vectors.specs.Networks.{side_from_lem};
 
-use price::{PlainTariff, RankedTariff, Tariff};
+use price::{Plain, PlainTariff, Ranked, RankedTariff, Tariff};
 use search::network::Network;
 use search::{Bend, Demand, Label, Side};
 use slice_vec::SliceVec;
 use solve::solve;
 
 const NODES: usize = 16;
+
+/// What the places for labels hold before a solve, at each kind of price.
+const PLAIN_PLACE: Label<Plain> = Label {
+    price: Plain { value: 0 },
+    end: 0,
+};
+
+const RANKED_PLACE: Label<Ranked> = Label {
+    price: Ranked {
+        first: 0,
+        second: 0,
+    },
+    end: 0,
+};
 
 // The number at a place, 0 past the last.
 fn number(numbers: &[u32], i: usize) -> u32
@@ -110,7 +124,7 @@ fn agrees(numbers: &[u32], nodes: usize, pairs: usize) -> bool
     let flow = &mut units[..2 * pairs];
     let expected = from(given, 7 * pairs);
     let feasible = number(expected, 0) == 1;
-    let mut plain_places = [Label::none(); NODES];
+    let mut plain_places = [PLAIN_PLACE; NODES];
     let plain = meets(
         &PlainTariff,
         from(numbers, 2),
@@ -120,7 +134,7 @@ fn agrees(numbers: &[u32], nodes: usize, pairs: usize) -> bool
         &mut plain_places,
     );
     let plain_price = paid(sides, flow, 0).saturating_add(paid(sides, flow, 1));
-    let mut ranked_places = [Label::none(); NODES];
+    let mut ranked_places = [RANKED_PLACE; NODES];
     let ranked = meets(
         &RankedTariff,
         from(numbers, 2),

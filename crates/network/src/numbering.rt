@@ -20,7 +20,6 @@ fn fill_ranks(marks: &[bool], n: usize, ranks: &mut [usize]) -> usize
     ensures total { result ≡ rank marks.now n }
 {
     let mut total = 0;
-    // By number: each rank hangs on those before it, and the contract tells it by number.
     // By number: the total runs on from place to place.
     for k in 0..n {
         ranks[k] = total;

@@ -22,6 +22,7 @@ fn strike<const N: usize>(legs: &mut ArrayVec<Leg, N>, start: usize, end: usize)
 }
 
 // Amends a range of the legs, if it is one.
+#[tactic(auto, using(leg_slice::proofs::Written::refilled))]
 fn amend<const N: usize>(
     legs: &mut ArrayVec<Leg, N>,
     start: usize,
@@ -32,7 +33,7 @@ fn amend<const N: usize>(
     ensures list { legs.new.items ≡ amend_legs legs.old.items true start end attributes }
 {
     if checks::check_amend(legs.len(), true, start, end, attributes).is_ok() {
-        leg_slice::amend(legs, start, end, attributes);
+        leg_slice::amend(legs.as_mut_slice(), start, end, attributes);
     }
 }
 

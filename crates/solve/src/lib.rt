@@ -15,20 +15,12 @@ use price::{Price, Tariff};
 use search::network::Network;
 use search::{Demand, Label, NO_PRICE, ROOT, label_at, make_labels, set_label};
 use slice_vec::SliceVec;
-use std::error::Error;
-use std::fmt;
+use thiserror::Error;
 
 /// No flow within the rooms meets the demands.
-#[derive(Clone, Copy, Debug, Default, PartialEq, Eq, PartialOrd, Ord, Hash)]
+#[derive(Clone, Copy, Debug, PartialEq, Eq, Hash, Error)]
+#[error("no flow meets the demands")]
 pub struct Infeasible;
-
-impl fmt::Display for Infeasible {
-    fn fmt<W: fmt::Write>(&self, f: &mut fmt::Formatter<W>) -> fmt::Result {
-        f.write_str("no flow meets the demands")
-    }
-}
-
-impl Error for Infeasible {}
 
 // One unit over side s.
 fn push<T: Tariff>(network: &Network<'_, T>, flow: &mut [u16], s: usize)

@@ -75,9 +75,10 @@ impl Survey for SurveyTable {
         Ok(())
     }
 
+    #[tactic(auto, using(leg_slice::proofs::Written::refilled))]
     fn amend(&mut self, start: usize, end: usize, attributes: Attributes) -> Result<(), Refusal> {
         checks::check_amend(self.legs.len(), true, start, end, attributes)?;
-        leg_slice::amend(&mut self.legs, start, end, attributes);
+        leg_slice::amend(self.legs.as_mut_slice(), start, end, attributes);
         Ok(())
     }
 }
