@@ -1,10 +1,24 @@
-// Legs amended in place, in a slice.
+// Ranges of legs struck and amended in place, in the front of a slice.
 #![tactic(auto)]
 
-ghost use Rattle.std.specs.Prelude.{◌≡◌, ◌≤◌, map, length};
-ghost use Rattle.survey.specs.Model.{amended, with_attributes};
+ghost use Rattle.std.specs.Prelude.{◌≡◌, ◌-◌, ◌≤◌, map, length, take};
+ghost use Rattle.survey.specs.Model.{struck, amended, with_attributes};
 
 use survey::leg::{Attributes, Leg};
+
+/// Removes legs `start` to `end - 1` of the first `count`: the legs after them move down.
+pub fn strike(legs: &mut [Leg], count: usize, start: usize, end: usize)
+    requires { (start ≤ end) × ((end ≤ count) × (count ≤ length legs.old)) }
+    ensures { take (count - (end - start)) legs.new ≡ struck (take count legs.old) start end }
+{
+    // Either way the work grows with the legs behind the range; to turn a short range past them takes less than to copy them.
+    let (range, behind) = (end - start, count - end);
+    if range < behind {
+        legs[start..count].rotate_left(range);
+    } else {
+        legs.copy_within(end..count, start);
+    }
+}
 
 // Sets the attributes of each leg.
 fn amend_all(legs: &mut [Leg], attributes: Attributes)

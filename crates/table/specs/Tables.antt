@@ -1,8 +1,8 @@
 -- What a survey table holds.
-use Rattle.std.specs.Prelude.{List}
+use Rattle.std.specs.Prelude.{List, take}
 use Rattle.survey.specs.declared.leg.Leg.{Leg}
 use Rattle.table.specs.declared.survey_table.SurveyTable.{SurveyTable}
 
--- its legs
+-- the legs in use
 abbrev pub table_legs : SurveyTable → List Leg
-table_legs t = t.legs.items
+table_legs t = take t.count t.legs

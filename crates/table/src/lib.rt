@@ -6,12 +6,14 @@ ghost use Rattle.table.specs.Tables.{table_legs};
 
 mod survey_table;
 
-use arrayvec::ArrayVec;
 use leg_slice;
 use refusal::Refusal;
 use survey::leg::{Attributes, Leg};
 use survey::{Survey, checks};
 pub use survey_table::SurveyTable;
+
+/// The most legs that a table holds.
+const CAPACITY: usize = 256;
 
 impl SurveyTable {
     /// An empty table.
@@ -19,16 +21,17 @@ impl SurveyTable {
         ensures { table_legs result ≡ [] }
     {
         SurveyTable {
-            legs: ArrayVec::new(),
+            legs: [Leg::default(); CAPACITY],
+            count: 0,
         }
     }
 
-    /// The legs.
+    /// The legs in use.
     pub fn as_slice(&self) -> &[Leg]
         ensures legs { result.now ≡ table_legs self.now }
         ensures few { length result.now ≤ 256 }
     {
-        self.legs.as_slice()
+        &self.legs[0..self.count]
     }
 }
 
@@ -46,12 +49,12 @@ impl Survey for SurveyTable {
     ghost leading = { record { stays = λ s. tt; onward = λ s t u cs ds p q. tt } };
 
     fn count(&self) -> usize {
-        self.legs.len()
+        self.as_slice().len()
     }
 
     /// A leg may be entered while there are fewer than 256.
     fn may_enter(&self) -> bool {
-        !self.legs.is_full()
+        self.count < CAPACITY
     }
 
     /// A table may always be amended.
@@ -64,21 +67,23 @@ impl Survey for SurveyTable {
     }
 
     fn enter(&mut self, leg: Leg) -> Result<(), Refusal> {
-        checks::check_enter(&self.legs, !self.legs.is_full(), &leg)?;
-        self.legs.push(leg);
+        let legs = self.as_slice();
+        checks::check_enter(legs, legs.len() < CAPACITY, &leg)?;
+        self.legs[self.count] = leg;
+        self.count += 1;
         Ok(())
     }
 
     fn strike(&mut self, start: usize, end: usize) -> Result<(), Refusal> {
-        checks::check_strike(self.legs.len(), true, start, end)?;
-        self.legs.drain(start..end);
+        checks::check_strike(self.count, true, start, end)?;
+        leg_slice::strike(&mut self.legs, self.count, start, end);
+        self.count -= end - start;
         Ok(())
     }
 
-    #[tactic(auto, using(leg_slice::proofs::Written::refilled))]
     fn amend(&mut self, start: usize, end: usize, attributes: Attributes) -> Result<(), Refusal> {
-        checks::check_amend(self.legs.len(), true, start, end, attributes)?;
-        leg_slice::amend(self.legs.as_mut_slice(), start, end, attributes);
+        checks::check_amend(self.count, true, start, end, attributes)?;
+        leg_slice::amend(&mut self.legs, start, end, attributes);
         Ok(())
     }
 }
