@@ -10,7 +10,6 @@ ghost use Rattle.journal.specs.Writing.{writing};
 
 mod survey_journal;
 
-use arrayvec::ArrayVec;
 use refusal::Refusal;
 use replay;
 use slice_vec::SliceVec;
@@ -49,11 +48,20 @@ impl<'a> SurveyJournal<'a> {
         self.entries.len() < self.entries.capacity().min(MOST_ENTRIES)
     }
 
-    // The legs that the changes make.
-    fn replayed(&self) -> ArrayVec<Leg, MOST_ENTRIES>
-        ensures { result.items ≡ journal_legs self.now }
+    // The legs that the changes make, played into the front of these places.
+    fn play<'l>(&self, legs: &'l mut [Leg; MOST_ENTRIES]) -> &'l [Leg]
+        ensures { result.now ≡ journal_legs self.now }
     {
-        replay::replay(self.changes())
+        let count = replay::replay(self.changes(), legs);
+        &legs[0..count]
+    }
+
+    // How many legs there are.
+    fn count_legs(&self) -> usize
+        ensures { result ≡ length (journal_legs self.now) }
+    {
+        let mut legs = [Leg::default(); MOST_ENTRIES];
+        self.play(&mut legs).len()
     }
 
     // Writes an accepted change into the first free entry.
@@ -80,7 +88,7 @@ impl<'a> Survey for SurveyJournal<'a> {
     ghost leading = { writing };
 
     fn count(&self) -> usize {
-        self.replayed().len()
+        self.count_legs()
     }
 
     /// A leg may be entered while an entry is free.
@@ -94,25 +102,25 @@ impl<'a> Survey for SurveyJournal<'a> {
     }
 
     fn leg(&self, i: usize) -> Result<Leg, Refusal> {
-        checks::query_leg(&self.replayed(), i)
+        let mut legs = [Leg::default(); MOST_ENTRIES];
+        checks::query_leg(self.play(&mut legs), i)
     }
 
     fn enter(&mut self, leg: Leg) -> Result<(), Refusal> {
-        checks::check_enter(&self.replayed(), self.is_free(), &leg)?;
+        let mut legs = [Leg::default(); MOST_ENTRIES];
+        checks::check_enter(self.play(&mut legs), self.is_free(), &leg)?;
         self.write(Change::Enter(leg));
         Ok(())
     }
 
     fn strike(&mut self, start: usize, end: usize) -> Result<(), Refusal> {
-        let count = self.replayed().len();
-        checks::check_strike(count, self.is_free(), start, end)?;
+        checks::check_strike(self.count_legs(), self.is_free(), start, end)?;
         self.write(Change::Strike { start, end });
         Ok(())
     }
 
     fn amend(&mut self, start: usize, end: usize, attributes: Attributes) -> Result<(), Refusal> {
-        let count = self.replayed().len();
-        checks::check_amend(count, self.is_free(), start, end, attributes)?;
+        checks::check_amend(self.count_legs(), self.is_free(), start, end, attributes)?;
         self.write(Change::Amend {
             start,
             end,

@@ -2,7 +2,7 @@
 use Rattle.std.proofs.Common.{rules, ◌≡◌, true, length, take, ap, ◌∙◌, arith}
 use Rattle.std.proofs.lemmas.List.{length-take-le}
 use Rattle.refusal.specs.Answers.{accepted}
-use Rattle.survey.specs.Model.{amended, amend_answer}
+use Rattle.survey.specs.Model.{amend_answer}
 use Rattle.survey.proofs.Accepted.{amending, passes}
 use Rattle.leg_slice.proofs.Front.{front_amended}
 use Rattle.replay.proofs.amend.Goals as goal
