@@ -4,8 +4,7 @@ ghost use Rattle.survey.specs.Ends.{ends as ends_of, station as station_of, bear
 ghost use Rattle.survey.specs.Model.{valid_legs};
 ghost use Rattle.embedding.specs.Tables.{Holds};
 
-use crate::ends::{end_bearing, end_station};
-use crate::tables::table;
+use crate::ends::{end_bearing, end_station, fill_stations};
 use survey::leg::Leg;
 
 /// A list of at most 256 legs that a survey can hold.
@@ -46,6 +45,8 @@ impl<'a> Cave<'a> {
     pub fn stations(&self) -> [usize; 512]
         ensures { Holds 0 (station_of self.now.legs.now) result (ends_of self.now.legs.now) }
     {
-        table(self.ends(), 0, |e| self.station(e) as usize)
+        let mut stations = [0; 512];
+        fill_stations(self.legs, &mut stations);
+        stations
     }
 }

@@ -5,7 +5,7 @@ ghost use Rattle.embedding.specs.Rotation.{face_step, face as face_of, faces as 
 ghost use Rattle.embedding.specs.Demands.{source_switch, demand};
 ghost use Rattle.embedding.specs.Tables.{Holds};
 
-use crate::face_demand;
+use crate::{count_faces, face_demand, fill_angle_faces, fill_source_switches};
 use cycles::{name_cycles, tally};
 use embedding::tables::table;
 use pairs::twin;
@@ -50,9 +50,7 @@ impl<'a> Faces<'a> {
     pub fn count(&self) -> usize
         ensures { result ≡ faces_of self.now.rotation.cave.legs.now }
     {
-        (0..self.rotation.cave.ends())
-            .filter(|&e| self.face(e) == e)
-            .count()
+        count_faces(self.rotation.cave.legs, &self.names)
     }
 
     /// The face in which the angle of an end lies: that of the end after it.
@@ -77,9 +75,13 @@ impl<'a> Faces<'a> {
         ensures { Holds (pos 0) (demand self.now.rotation.cave.legs.now outer) result (ends self.now.rotation.cave.legs.now) }
     {
         let n = self.rotation.cave.ends();
-        let angles: [usize; 512] = table(n, 0, |e| self.angle_face(e));
-        let switches: [bool; 512] = table(n, false, |e| self.is_source_switch(e));
+        let legs = self.rotation.cave.legs;
+        let nexts = self.rotation.nexts();
+        let mut angles = [0; 512];
+        let mut switches = [false; 512];
         let mut tallies = [0; 512];
+        fill_angle_faces(legs, nexts, &self.names, &mut angles);
+        fill_source_switches(legs, nexts, &mut switches);
         tally(&angles, &switches, n, &mut tallies);
         table(n, 0, |f| face_demand(tallies[f], f == outer))
     }

@@ -10,6 +10,7 @@ ghost use Rattle.rotation.specs.Chains.{last_end, end_before};
 mod rotations;
 
 use embedding::cave::Cave;
+pub use embedding::ends;
 pub use rotations::Rotation;
 
 /// The clockwise gap from one bearing to another, 1 to 3,600.

@@ -38,4 +38,12 @@ impl<'a> Rotation<'a> {
     {
         self.nexts[e]
     }
+
+    /// The end that follows each end, as a table.
+    pub fn nexts(&self) -> &[usize]
+        ensures follow { Holds 0 (next_of self.now.cave.legs.now) result.now (ends self.now.cave.legs.now) }
+        ensures long { length result.now ≡ 512 }
+    {
+        &self.nexts
+    }
 }

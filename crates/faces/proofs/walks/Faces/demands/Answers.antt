@@ -34,8 +34,7 @@ tallied_le keys chosen n v = count_bound (λ k. get_or chosen k false && eqb (ge
 pub tally-requires-clause-inside : goal.tally-requires-clause-inside
 tally-requires-clause-inside c k l =
     let cave = c.args.self.now.rotation.cave in
-    let angles = holds_told 0 (angle_face cave.legs.now) (ends cave.legs.now) (omega arith) c.table-angles.ensures.told (λ e v l p. search rules) in
-    let a = angles k (omega arith) in
+    let a = c.fill_angle_faces.ensures k (omega arith) in
     let b = angle_face_lt cave.legs.now cave.valid k (omega arith) in
     omega arith
 
@@ -44,15 +43,15 @@ tally-requires-clause-blank c e l = get_or-replicate 512 e 0 0 l
 
 pub table-requires : goal.table-requires
 table-requires c =
-    let small : (e : ℕ) → e < 512 → get_or c.tally.new.tallies e 0 ≤ 512 = λ e l. let t = c.tally.ensures e (omega arith) in let b = tallied_le c.table-angles.result c.table-switches.result c.ends-n.result e in omega arith in
+    let small : (e : ℕ) → e < 512 → get_or c.tally.new.tallies e 0 ≤ 512 = λ e l. let t = c.tally.ensures e (omega arith) in let b = tallied_le c.fill_angle_faces.new.angles c.fill_source_switches.new.switches c.ends-n.result e in omega arith in
     grind (serving, small)
 
 pub returns : goal.returns
 returns c =
     let legs = c.args.self.now.rotation.cave.legs.now in
-    let angles = holds_told 0 (angle_face legs) (ends legs) (omega arith) c.table-angles.ensures.told (λ e v l p. search rules) in
-    let switches = holds_told false (source_switch legs) (ends legs) (omega arith) c.table-switches.ensures.told (λ e v l p. search rules) in
-    let counted : Holds 0 (source_switches legs) c.tally.new.tallies (ends legs) = λ e l. c.tally.ensures e (omega arith) ∙ ap (λ n. tallied c.table-angles.result c.table-switches.result n e) c.ends-n.ensures ∙ switches_tallied legs _ _ angles switches e in
+    let angles = c.fill_angle_faces.new.angles in
+    let switches = c.fill_source_switches.new.switches in
+    let counted : Holds 0 (source_switches legs) c.tally.new.tallies (ends legs) = λ e l. c.tally.ensures e (omega arith) ∙ ap (λ n. tallied angles switches n e) c.ends-n.ensures ∙ switches_tallied legs angles switches c.fill_angle_faces.ensures c.fill_source_switches.ensures e in
     holds_told (pos 0) (demand legs c.args.outer) _ (omega arith) c.table.ensures.told (λ e v l p.
     let said : v ≡ of_switches (eqb e c.args.outer) (get_or c.tally.new.tallies e 0) = search rules in
     said ∙ ap (of_switches (eqb e c.args.outer)) (counted e (omega arith)))
