@@ -14,14 +14,14 @@ use embedding::cave::Cave;
 use embedding::tables::table;
 use rotation::Rotation;
 
-// Counts the chosen ends by their stations.
-fn tally_stations(cave: &Cave, chosen: &[bool]) -> [usize; 10000]
-    requires { ends cave.now.legs.now ≤ length chosen.now }
-    ensures { Holds 0 (chosen_at cave.now.legs.now chosen.now) result 10000 }
+// Counts the chosen ends by their stations, into places that hold 0. The caller lends the table, so that it stands once.
+fn tally_stations(cave: &Cave, chosen: &[bool], tallies: &mut [usize])
+    requires room { ends cave.now.legs.now ≤ length chosen.now }
+    requires long { length tallies.old ≡ 10000 }
+    requires blank { Holds 0 (λ _. 0) tallies.old 10000 }
+    ensures { Holds 0 (chosen_at cave.now.legs.now chosen.now) tallies.new 10000 }
 {
-    let mut tallies = [0; 10000];
-    tally(&cave.stations(), chosen, cave.ends(), &mut tallies);
-    tallies
+    tally(&cave.stations(), chosen, cave.ends(), tallies);
 }
 
 // Which ends stand where no end is chosen.
@@ -29,7 +29,8 @@ fn without(cave: &Cave, chosen: &[bool]) -> [bool; 512]
     requires { ends cave.now.legs.now ≤ length chosen.now }
     ensures { Holds false (λ e. nat_eq (chosen_at cave.now.legs.now chosen.now (station cave.now.legs.now e)) 0) result (ends cave.now.legs.now) }
 {
-    let tallies = tally_stations(cave, chosen);
+    let mut tallies = [0; 10000];
+    tally_stations(cave, chosen, &mut tallies);
     table(cave.ends(), false, |e| {
         tallies[cave.station(e) as usize] == 0
     })
@@ -65,6 +66,7 @@ pub fn first_mixed(rotation: &Rotation) -> Option<usize>
     ensures { result ≡ below (ends rotation.now.cave.legs.now) (first_mixed_of rotation.now.cave.legs.now) }
 {
     let cave = rotation.cave;
-    let changes = tally_stations(&cave, &turns(rotation));
+    let mut changes = [0; 10000];
+    tally_stations(&cave, &turns(rotation), &mut changes);
     (0..cave.ends()).find(|&e| changes[cave.station(e) as usize] > 2)
 }

@@ -50,25 +50,27 @@ pub fn switches(cave: &Cave) -> [bool; 512]
     table(cave.ends(), false, |e| sources[e] | sinks[e])
 }
 
-// The lowest end of each station. A station without ends, which nobody asks for, has the number of ends: an Option would only
-// have to be unwrapped.
-fn firsts(cave: &Cave) -> [usize; 10000]
-    ensures { Holds 0 (lowest_from cave.now.legs.now 0) result 10000 }
+// The lowest end of each station, into places that hold the number of ends. A station without ends, which nobody asks for,
+// keeps that number: an Option would only have to be unwrapped. The caller lends the table, so that it stands once.
+fn fill_firsts(cave: &Cave, firsts: &mut [usize])
+    requires all { length firsts.old ≡ 10000 }
+    requires blank { Holds 0 (λ _. ends cave.now.legs.now) firsts.old 10000 }
+    ensures { Holds 0 (lowest_from cave.now.legs.now 0) firsts.new 10000 }
 {
-    let mut firsts = [cave.ends(); 10000];
     // By end, the last first, so that the lowest stays.
     for e in (0..cave.ends()).rev() {
         firsts[cave.station(e) as usize] = e;
     }
-    firsts
 }
 
 // The lowest end at the station of each end.
 fn lowest(cave: &Cave) -> [usize; 512]
     ensures { Holds 0 (lowest_at cave.now.legs.now) result (ends cave.now.legs.now) }
 {
-    let firsts = firsts(cave);
-    table(cave.ends(), 0, |e| firsts[cave.station(e) as usize])
+    let n = cave.ends();
+    let mut firsts = [n; 10000];
+    fill_firsts(cave, &mut firsts);
+    table(n, 0, |e| firsts[cave.station(e) as usize])
 }
 
 /// The node of the source or sink at which each end stands, and the number of all nodes, given the number of faces.

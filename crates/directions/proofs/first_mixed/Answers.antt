@@ -1,7 +1,8 @@
--- The chain finds the lowest end whose station has more than two changes.
+-- Fresh places hold 0, and the chain finds the lowest end whose station has more than two changes.
 use Rattle.std.proofs.Common.{◌≡◌, ℕ, ◌<◌, ◌≤◌, Bool, true, false, not, leb, List, get_or, ap, ◌∙◌, arith, rules, tests}
 use Rattle.std.proofs.lemmas.Bool.Decides.{nat_tests}
 use Rattle.std.proofs.lemmas.Iterator.{first_from_Range}
+use Rattle.std.proofs.lemmas.List.{get_or-replicate}
 use Rattle.survey.specs.declared.leg.Leg.{Leg}
 use Rattle.survey.specs.Ends.{ends, station}
 use Rattle.survey.specs.Model.{valid_legs}
@@ -24,16 +25,19 @@ more m n q l = grind (arith, nat_tests)
 few : (m n : ℕ) → m ≡ n → m ≤ 2 → not (leb n 2) ≡ false
 few m n q l = grind (arith, nat_tests)
 
+pub tally_stations-requires-clause-blank : goal.tally_stations-requires-clause-blank
+tally_stations-requires-clause-blank c e l = get_or-replicate 10000 e 0 0 l
+
 pub returns : goal.returns
 returns c =
     let cave = c.args.rotation.now.cave in
     let legs = cave.legs.now in
     let n = c.ends.result in
-    let tallies = c.tally_stations-changes.result in
+    let tallies = c.tally_stations.new.tallies in
     let p : ℕ → Bool = λ e. not (bimodal_at legs e) in
     let Yes : ℕ → Type 0 = λ e. e < n → p e ≡ true in
     let No : ℕ → Type 0 = λ e. e < n → p e ≡ false in
-    let at = λ (e : ℕ) (l : e < n). told legs c.turns.result tallies e cave.valid c.turns.ensures c.tally_stations-changes.ensures (omega arith) in
+    let at = λ (e : ℕ) (l : e < n). told legs c.turns.result tallies e cave.valid c.turns.ensures c.tally_stations.ensures (omega arith) in
     find_seeks p n c.find.result
     (first_from_Range _ _ _ c.find.result Yes No c.find.ensures.ran
     (λ x q k l. let t : 2 < get_or tallies (station legs x) 0 = search (rules, tests) in more _ _ (at x l) t)

@@ -1,6 +1,5 @@
 -- The keys are stations, and the tally counts by them.
 use Rattle.std.proofs.Common.{ap, ◌∙◌, arith}
-use Rattle.std.proofs.lemmas.List.{get_or-replicate}
 use Rattle.embedding.proofs.Distinct.{station_lt}
 use Rattle.cycles.specs.Cycles.{tallied}
 use Rattle.directions.proofs.Chosen.{tallied_at}
@@ -14,7 +13,7 @@ tally-requires-clause-inside c k l =
     omega arith
 
 pub tally-requires-clause-blank : goal.tally-requires-clause-blank
-tally-requires-clause-blank c e l = get_or-replicate 10000 e 0 0 l
+tally-requires-clause-blank c e l = c.requires.blank e (omega arith)
 
 pub returns : goal.returns
 returns c e l = c.tally.ensures e (omega arith) ∙ ap (λ n. tallied c.stations.result c.args.chosen.now n e) c.ends.ensures ∙ tallied_at c.args.cave.now.legs.now c.stations.result c.args.chosen.now c.stations.ensures e

@@ -1,18 +1,18 @@
 -- One end lower is written at its station.
-use Rattle.std.proofs.Common.{◌≡◌, ℕ, ◌+◌, ◌-◌, replicate, set, sym, ◌∙◌, subst, arith, length-set}
-use Rattle.std.proofs.lemmas.List.{get_or-replicate, length-replicate}
+use Rattle.std.proofs.Common.{◌≡◌, ℕ, ◌+◌, ◌-◌, set, sym, subst, arith, length-set}
 use Rattle.survey.specs.Ends.{station}
 use Rattle.embedding.specs.Tables.{Holds}
 use Rattle.network.specs.Tables.{lowest_from}
 use Rattle.network.proofs.Lowest.{firsts_none, firsts_less}
-use Rattle.network.proofs.numbering.firsts.Goals as goal
+use Rattle.network.proofs.numbering.fill_firsts.Goals as goal
 
 pub loop-e-init : goal.loop-e-init
 loop-e-init c =
     let legs = c.args.cave.now.legs.now in
+    let xs = c.args.firsts.now in
     record {
-      long = length-replicate 10000 c.ends-firsts.result;
-      lowest = subst (λ (n : ℕ). Holds 0 (lowest_from legs n) (replicate 10000 c.ends-firsts.result) 10000) (sym c.ends-e.ensures) (firsts_none legs 10000 (replicate 10000 c.ends-firsts.result) (λ e l. get_or-replicate 10000 e c.ends-firsts.result 0 l ∙ c.ends-firsts.ensures));
+      long = c.requires.all;
+      lowest = subst (λ (n : ℕ). Holds 0 (lowest_from legs n) xs 10000) (sym c.ends-e.ensures) (firsts_none legs 10000 xs c.requires.blank);
     }
 
 pub loop-e-preserved : goal.loop-e-preserved
