@@ -1,5 +1,5 @@
 -- The lines of a survey text, each with its place.
-use Rattle.std.specs.Prelude.{ℕ, ◌+◌, ◌-◌, cond, List, [], ◌∷◌, ◌++◌, length, drop, Some, None, Option, ◌==◌, nat_lt}
+use Rattle.std.specs.Prelude.{ℕ, ◌+◌, ◌-◌, ◌≤◌, cond, List, [], ◌∷◌, ◌++◌, length, drop, Some, None, Option, ◌==◌, nat_lt}
 use Rattle.svx_line.specs.declared.part.Part.{Part}
 use Rattle.svx_line.specs.Spans.{Span, span}
 use Rattle.svx_line.specs.Parts.{span_of}
@@ -26,3 +26,8 @@ with_line (Some x) ls = span_of x ∷ ls
 abbrev pub lines_given : Option Part → ℕ
 lines_given None = 0
 lines_given (Some x) = 1
+
+-- the line ends by place n
+abbrev pub Within : Option Part → ℕ → Type 0
+Within None n = Unit {0}
+Within (Some x) n = x.place + length x.bytes.now ≤ n

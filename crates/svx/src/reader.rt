@@ -23,7 +23,7 @@ pub(crate) struct Reader<'a> {
 
 impl<'a> Reader<'a> {
     ghost use Rattle.std.specs.Prelude.{◌+◌, ◌<◌, length};
-    ghost use Rattle.svx.specs.Lines.{lines_left, with_line, lines_given};
+    ghost use Rattle.svx.specs.Lines.{lines_left, with_line, lines_given, Within};
 
     /// A reader at the start of the text.
     pub(crate) fn new(text: &'a [u8]) -> Reader<'a>
@@ -44,6 +44,7 @@ impl<'a> Reader<'a> {
         ensures text { self.new.text.now ≡ self.old.text.now }
         ensures lines { lines_left self.old.place self.old.text.now ≡ with_line result (lines_left self.new.place self.old.text.now) }
         ensures line { self.new.line ≡ self.old.line + lines_given result }
+        ensures within { Within result (length self.old.text.now) }
         ensures last { lines_given result ≡ 0 → length self.old.text.now < self.old.place }
         ensures onward { self.old.place + lines_given result ≤ self.new.place }
     {

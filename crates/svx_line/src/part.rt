@@ -34,6 +34,8 @@ impl<'a> Part<'a> {
 
 /// No bytes, at the text's start.
 impl<'a> Default for Part<'a> {
+    ghost is_default = { λ p. (p.bytes.now ≡ []) × (p.place ≡ 0) };
+
     fn default() -> Self {
         Part {
             bytes: &[],
