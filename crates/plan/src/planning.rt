@@ -13,14 +13,15 @@ use refusal::Refusal;
 use survey::Survey;
 use survey::leg::Leg;
 
-// The legs of a survey, in a list of their own.
-fn read_legs<S: Survey>(survey: &S) -> ArrayVec<Leg, 256>
-    requires { length (S.legs survey.now) ≤ 256 }
+// The legs of a survey, so many, in a list of their own.
+fn read_legs<S: Survey>(survey: &S, count: usize) -> ArrayVec<Leg, 256>
+    requires all { count ≡ length (S.legs survey.now) }
+    requires few { count ≤ 256 }
     ensures { result.items ≡ S.legs survey.now }
 {
     let mut legs = ArrayVec::new();
     // A survey tells its legs by number.
-    for i in 0..survey.count() {
+    for i in 0..count {
         if let Ok(leg) = survey.leg(i) {
             legs.push(leg);
         }
@@ -29,12 +30,13 @@ fn read_legs<S: Survey>(survey: &S) -> ArrayVec<Leg, 256>
 }
 
 // The plan of a survey's legs, where its embedding is accepted.
-fn plan_legs<S: Survey>(survey: &S, outer: OuterSide) -> Result<Plan, Refusal>
-    requires { accepted ≡ request_answer (length (S.legs survey.now)) outer.leg outer.side }
+fn plan_legs<S: Survey>(survey: &S, count: usize, outer: OuterSide) -> Result<Plan, Refusal>
+    requires all { count ≡ length (S.legs survey.now) }
+    requires request { accepted ≡ request_answer count outer.leg outer.side }
     ensures answer { told result ≡ plan_answer (S.legs survey.now) outer.leg outer.side }
     ensures state { IfOk result (λ p. plan_state p ≡ state (S.legs survey.now) outer.leg outer.side) }
 {
-    let legs = read_legs(survey);
+    let legs = read_legs(survey, count);
     check_embedding(&Cave {
         legs: legs.as_slice(),
     })?;
@@ -47,7 +49,8 @@ pub fn plan<S: Survey>(survey: &S, plan: &mut Plan, outer: OuterSide) -> Result<
     ensures state { plan_state plan.new ≡ planned_state (plan_answer (S.legs survey.now) outer.leg outer.side) (S.legs survey.now) outer.leg outer.side (plan_state plan.old) }
     ensures kept { (told result ≢ accepted) → plan.new ≡ plan.old }
 {
-    check_request(survey.count(), outer)?;
-    *plan = plan_legs(survey, outer)?;
+    let count = survey.count();
+    check_request(count, outer)?;
+    *plan = plan_legs(survey, count, outer)?;
     Ok(())
 }
