@@ -7,34 +7,34 @@ ghost use Rattle.std.specs.Prelude.{◌≡◌, min};
 ghost use Rattle.survey.specs.Model.{leg_told};
 ghost use Rattle.transcript.specs.Steps.{answer_told};
 
+mod numbers;
+
+use numbers::Numbers;
 use refusal::Refusal;
 use std::alloc::{AllocError, Global};
 use std::io;
 use std::io::Read;
-use std::str::SplitWhitespace;
 use survey::Survey;
 use survey::leg::{Attributes, Change, Leg};
 use survey_runs;
 use transcript::step::{Call, Reply, Step};
 
+/// The most bytes of input that are read.
+const MOST_BYTES: u64 = 1_000_000;
+
 /// What the supplied entries hold before the journal writes them.
 const UNUSED: Change = Change::Strike { start: 7, end: 3 };
 
-// The next number of the input, 0 where there is none.
-fn next(words: &mut SplitWhitespace) -> u32 {
-    words.next().and_then(|word| word.parse().ok()).unwrap_or(0)
-}
-
-fn next_six(words: &mut SplitWhitespace) -> [u32; 6] {
+fn next_six(numbers: &mut Numbers) -> [u32; 6] {
     let mut six = [0; 6];
     for n in six.iter_mut() {
-        *n = next(words);
+        *n = numbers.next();
     }
     six
 }
 
-fn next_leg(words: &mut SplitWhitespace) -> Leg {
-    let [from, to, bearing, weight, wet, limit] = next_six(words);
+fn next_leg(numbers: &mut Numbers) -> Leg {
+    let [from, to, bearing, weight, wet, limit] = next_six(numbers);
     Leg {
         from,
         to,
@@ -45,12 +45,12 @@ fn next_leg(words: &mut SplitWhitespace) -> Leg {
     }
 }
 
-fn next_call(words: &mut SplitWhitespace) -> Call {
-    let kind = next(words);
+fn next_call(numbers: &mut Numbers) -> Call {
+    let kind = numbers.next();
     if kind == 0 {
-        return Call::Change(Change::Enter(next_leg(words)));
+        return Call::Change(Change::Enter(next_leg(numbers)));
     }
-    let [a, b, weight, wet, limit, _] = next_six(words);
+    let [a, b, weight, wet, limit, _] = next_six(numbers);
     let start = a as usize;
     let end = b as usize;
     match kind {
@@ -70,10 +70,10 @@ fn next_call(words: &mut SplitWhitespace) -> Call {
     }
 }
 
-fn next_expected(words: &mut SplitWhitespace) -> Told {
+fn next_expected(numbers: &mut Numbers) -> Told {
     Told {
-        number: next(words),
-        values: next_six(words),
+        number: numbers.next(),
+        values: next_six(numbers),
     }
 }
 
@@ -148,38 +148,34 @@ fn compare_legs<S: Survey>(
     println!(rt; "{name}: {agree} of {count} legs below agree")
 }
 
-fn read_legs(
-    heap: Global,
-    words: &mut SplitWhitespace,
-    count: u32,
-) -> Result<Vec<Leg>, AllocError> {
+fn read_legs(heap: Global, numbers: &mut Numbers, count: u32) -> Result<Vec<Leg>, AllocError> {
     let mut legs = Vec::new(heap);
     for _ in 0..count {
-        legs.push(next_leg(words))?;
+        legs.push(next_leg(numbers))?;
     }
     Ok(legs)
 }
 
 fn main(rt: HostRuntime) -> anyhow::Result<()> {
     let heap = rt.alloc();
-    let mut text = String::new(heap);
-    rt.stdin().read_to_string(&mut text)?;
-    let mut words = text.as_str().split_whitespace();
-    let turn = next(&mut words);
-    let supplied = next(&mut words) as usize;
-    let calls = next(&mut words);
-    let journal_count = next(&mut words);
-    let table_count = next(&mut words);
+    let mut text = Vec::new(heap);
+    rt.stdin().take(MOST_BYTES).read_to_end(&mut text)?;
+    let mut numbers = Numbers::new(&text);
+    let turn = numbers.next();
+    let supplied = numbers.next() as usize;
+    let calls = numbers.next();
+    let journal_count = numbers.next();
+    let table_count = numbers.next();
     let mut steps = Vec::new(heap);
     let mut over_journal = Vec::new(heap);
     let mut over_table = Vec::new(heap);
     for _ in 0..calls {
-        steps.push(Step::new(next_call(&mut words)))?;
-        over_journal.push(next_expected(&mut words))?;
-        over_table.push(next_expected(&mut words))?;
+        steps.push(Step::new(next_call(&mut numbers)))?;
+        over_journal.push(next_expected(&mut numbers))?;
+        over_table.push(next_expected(&mut numbers))?;
     }
-    let journal_legs = read_legs(heap, &mut words, journal_count)?;
-    let table_legs = read_legs(heap, &mut words, table_count)?;
+    let journal_legs = read_legs(heap, &mut numbers, journal_count)?;
+    let table_legs = read_legs(heap, &mut numbers, table_count)?;
     println!(rt; "{calls} calls")?;
     let mut entries = vec![in heap; UNUSED; supplied]?;
     let journal = survey_runs::run_journal(entries.as_mut_slice(), turn, steps.as_mut_slice());
