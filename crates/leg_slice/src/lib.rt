@@ -6,14 +6,18 @@ ghost use Rattle.survey.specs.Model.{struck, amended, with_attributes};
 
 use survey::leg::{Attributes, Leg};
 
+/// Up to so many legs behind a range are copied down faster than they are turned past it.
+const FEW: usize = 512;
+
 /// Removes legs `start` to `end - 1` of the first `count`: the legs after them move down.
 pub fn strike(legs: &mut [Leg], count: usize, start: usize, end: usize)
     requires { (start ≤ end) × ((end ≤ count) × (count ≤ length legs.old)) }
     ensures { take (count - (end - start)) legs.new ≡ struck (take count legs.old) start end }
 {
-    // Either way the work grows with the legs behind the range; to turn a short range past them takes less than to copy them.
+    // Either way the work grows with the legs behind the range; to turn a short range past many takes less than to copy them.
     let (range, behind) = (end - start, count - end);
-    if range < behind {
+    let turns = range.max(FEW) < behind;
+    if turns {
         legs[start..count].rotate_left(range);
     } else {
         legs.copy_within(end..count, start);

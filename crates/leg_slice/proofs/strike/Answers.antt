@@ -46,8 +46,8 @@ module _ (xs : List Leg) (n start end : ℕ) (p : start ≤ end) (q : end ≤ n)
       ap (λ (v : List Leg). take start xs ++ (v ++ rest)) d ∙ ap (λ (v : List Leg). take start xs ++ v) (append_assoc front range rest) ∙ sym (append_assoc (take start xs) front (range ++ rest)) in
       ap (take (n - (end - start))) m ∙ take_at (take start xs ++ front) (range ++ rest) (n - (end - start)) l ∙ closed
 
-pub returns-then-range-behind : goal.returns-then-range-behind
-returns-then-range-behind c = let r = c.args in turned r.legs.now r.count r.start r.end (omega arith) (omega arith) (omega arith) c.rotate_left.new.self c.rotate_left.ensures.after
+pub returns-then-turns : goal.returns-then-turns
+returns-then-turns c = let r = c.args in turned r.legs.now r.count r.start r.end (omega arith) (omega arith) (omega arith) c.rotate_left.new.self c.rotate_left.ensures.after
 
-pub returns-else-range-behind : goal.returns-else-range-behind
-returns-else-range-behind c = let r = c.args in ap (take (r.count - (r.end - r.start))) c.copy_within.ensures.after ∙ pasted r.legs.now r.count r.start r.end (omega arith) (omega arith) (omega arith)
+pub returns-else-turns : goal.returns-else-turns
+returns-else-turns c = let r = c.args in ap (take (r.count - (r.end - r.start))) c.copy_within.ensures.after ∙ pasted r.legs.now r.count r.start r.end (omega arith) (omega arith) (omega arith)
