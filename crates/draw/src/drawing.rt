@@ -1,13 +1,17 @@
 // Drawing a plan.
-ghost use Rattle.std.specs.Prelude.{◌≡◌, length};
+ghost use Rattle.std.specs.Prelude.{◌≡◌, ℕ, ◌<◌, ◌≤◌, false, length, if◌then◌else◌, slice_index_or};
+ghost use Rattle.survey.specs.Ends.{ends};
 ghost use Rattle.plan.specs.States.{plan_legs, plan_state, outer_face};
 ghost use Rattle.search.specs.Networks.{units};
+ghost use Rattle.shape.specs.Shapes.{switch, large_at};
 ghost use Rattle.shape.specs.Units.{side_count};
+ghost use Rattle.draw.specs.Tables.{straight, shape_of};
 ghost use Rattle.draw.specs.Shapes.{LeastShape};
 ghost use Rattle.draw.specs.Routes.{MakesLeast};
 ghost use Rattle.draw.specs.Drawings.{drawing_shape, drawing_state};
 ghost use Rattle.draw.specs.Outcomes.{Outcome as Leaves};
 
+use crate::bends::Bends;
 use crate::drawings::Drawing;
 use crate::filling::{bends_of, large_of};
 use crate::pricing::price_bends;
@@ -17,6 +21,17 @@ use price::Tariff;
 use refusal::Refusal;
 use search::{Label, Side};
 use slice_vec::SliceVec;
+
+// A drawing of the plan with these tables, which keep what the type says of them.
+fn drawing_of(plan: Plan, large: [bool; 512], bends: [Bends; 256]) -> Drawing
+    requires blank { (e : ℕ) → ends (plan_legs plan) ≤ e → slice_index_or large e false ≡ false }
+    requires unbent { (i : ℕ) → length (plan_legs plan) ≤ i → slice_index_or bends i straight ≡ straight }
+    requires angles { (e : ℕ) → e < ends (plan_legs plan) → large_at (plan_legs plan) (shape_of large bends) e ≡ (if switch (plan_legs plan) e then 1 else 0) }
+    ensures plan { drawing_state result ≡ plan_state plan }
+    ensures shape { drawing_shape result ≡ shape_of large bends }
+{
+    Drawing { plan, large, bends }
+}
 
 // Puts the plan and the shape that the units make into the drawing, and tells the price.
 fn keep<T: Tariff>(plan: Plan, tariff: &T, flow: &[u16], drawing: &mut Drawing) -> T::Price
@@ -29,7 +44,7 @@ fn keep<T: Tariff>(plan: Plan, tariff: &T, flow: &[u16], drawing: &mut Drawing) 
     let large = large_of(flow, 2 * count);
     let bends = bends_of(flow, count);
     let price = price_bends(tariff, &plan.cave(), &bends);
-    *drawing = Drawing { plan, large, bends };
+    *drawing = drawing_of(plan, large, bends);
     price
 }
 
