@@ -10,7 +10,7 @@ use price::{Price, Tariff};
 
 // So many times a price.
 fn multiply<P: Price>(price: P, count: u32) -> P
-    requires count { count ≤ 4000 }
+    requires count { count ≤ 131070 }
     requires small { P.Price.ops.size price ≤ 1000 }
     ensures value { result ≡ times P.Price.ops.zero P.Price.ops.plus count price }
     ensures small { P.Price.ops.size result ≤ 1000 * count }

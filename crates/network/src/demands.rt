@@ -1,9 +1,9 @@
 // What the nodes want and give.
-ghost use Rattle.std.specs.Prelude.{◌≡◌, ℕ, ◌<◌, ◌≤◌, true, length, pos, if◌then◌else◌, int_le, nat_lt};
+ghost use Rattle.std.specs.Prelude.{◌≡◌, ℕ, ◌<◌, ◌≤◌, true, length, pos, negsuc, if◌then◌else◌, int_le, nat_lt};
 ghost use Rattle.embedding.specs.Rotation.{faces as faces_of};
 ghost use Rattle.embedding.specs.Tables.{Holds};
 ghost use Rattle.search.specs.Demands.{no_demand, demand_at, wants_of, gives_of};
-ghost use Rattle.shape.specs.Nodes.{nodes as nodes_of, above as above_of};
+ghost use Rattle.shape.specs.Nodes.{nodes as nodes_of, above as above_of, beneath as beneath_of};
 ghost use Rattle.shape.specs.Statements.{HoldsDemands};
 ghost use Rattle.network.specs.Tables.{plan_demand};
 
@@ -18,6 +18,14 @@ fn above(demand: i64) -> u16
     if demand > 0 { demand as u16 } else { 0 }
 }
 
+// The part of a demand below zero. Not `above` of the negated demand: a clause of its own says what a wrong sign breaks.
+fn beneath(demand: i64) -> u16
+    requires { int_le (negsuc 999) demand ≡ true }
+    ensures { result ≡ beneath_of demand }
+{
+    if demand < 0 { (-demand) as u16 } else { 0 }
+}
+
 // What the faces want and give, by the demands at the ends that name them.
 fn fill_face_units(nodes: &Nodes, outer: usize, demands: &mut [Demand])
     requires { 1024 ≤ length demands.old }
@@ -29,7 +37,7 @@ fn fill_face_units(nodes: &Nodes, outer: usize, demands: &mut [Demand])
         if nodes.faces.face(e) == e {
             demands[nodes.of_face(e) as usize] = Demand {
                 wants: above(by_end[e]),
-                gives: above(-by_end[e]),
+                gives: beneath(by_end[e]),
             };
         }
     }

@@ -1,13 +1,12 @@
 -- One face more has its units.
-use Rattle.std.proofs.Common.{◌≡◌, ℕ, ◌<◌, true, ℤ, pos, negsuc, ◌-ℤ◌, length, get_or, set, sym, ap, ◌∙◌, subst, arith, rules, length-set, w64, SFits, to_z, of_z}
+use Rattle.std.proofs.Common.{◌≡◌, ℕ, ◌<◌, true, ℤ, pos, negsuc, get_or, set, sym, ap, ◌∙◌, subst, arith, rules, w64, SFits}
 use mathlib.Core.Path.{transport}
 use lib.Signed.{le_z}
 use Rattle.std.proofs.lemmas.Bool.{eq-eqb, ne_eqb}
-use Rattle.std.proofs.lemmas.Int.{to_z-of_z, ints}
+use Rattle.std.proofs.lemmas.Int.{to_z-of_z}
 use Rattle.survey.specs.Counting.{count}
 use Rattle.survey.specs.Ends.{ends}
 use Rattle.embedding.specs.Rotation.{face}
-use Rattle.embedding.specs.Demands.{demand}
 use Rattle.embedding.specs.Tables.{Holds}
 use Rattle.embedding.proofs.Reached.{count_bound}
 use Rattle.cycles.proofs.Tables.{holds_more, count_yes, count_no}
@@ -19,20 +18,19 @@ use Rattle.network.proofs.Numbers.{wants_at, gives_at, demand_high, demand_low}
 use Rattle.network.proofs.demands.fill_face_units.Goals as goal
 use Rattle.network.proofs.demands.fill_face_units.Goals.{then-face-e, else-face-e}
 
--- what is below zero is what is above zero when turned round
-above_negated : (d : ℤ) → above (pos 0 -ℤ d) ≡ beneath d
-above_negated (pos n) = grind (arith, ints)
-above_negated (negsuc n) = grind (arith, ints)
-
-negated : (d : ℤ) → le_z d (pos 1000) ≡ true → le_z (negsuc 999) d ≡ true → above (to_z w64 (of_z w64 (pos 0 -ℤ d))) ≡ beneath d
-negated d h l = let fits : SFits w64 (pos 0 -ℤ d) = grind (arith, ints) in ap above (to_z-of_z w64 (pos 0 -ℤ d) fits) ∙ above_negated d
-
 pub above-requires : goal.above-requires
 above-requires c =
     let cave = c.args.nodes.now.faces.rotation.cave in
     let fits : SFits w64 (get_or c.demands-by_end.result c.loop-e.e (pos 0)) = search rules in
     let d = c.demands-by_end.ensures c.loop-e.e (omega arith) in
     subst (λ (d : ℤ). le_z d (pos 1000) ≡ true) (sym (to_z-of_z w64 _ fits ∙ d)) (demand_high cave.legs.now cave.few c.args.outer c.loop-e.e)
+
+pub beneath-requires : goal.beneath-requires
+beneath-requires c =
+    let cave = c.args.nodes.now.faces.rotation.cave in
+    let fits : SFits w64 (get_or c.demands-by_end.result c.loop-e.e (pos 0)) = search rules in
+    let d = c.demands-by_end.ensures c.loop-e.e (omega arith) in
+    subst (λ (d : ℤ). le_z (negsuc 999) d ≡ true) (sym (to_z-of_z w64 _ fits ∙ d)) (demand_low cave.legs.now cave.few c.args.outer c.loop-e.e)
 
 pub bounds-demands-of_face : goal.bounds-demands-of_face
 bounds-demands-of_face c =
@@ -57,9 +55,9 @@ loop-e-preserved c =
           let b = count_bound (names_face legs) e in
           let fits : SFits w64 (get_or c.demands-by_end.result e (pos 0)) = search rules in
           let d = to_z-of_z w64 _ fits ∙ c.demands-by_end.ensures e l in
-          let new : Demand = record { wants = w.above.result; gives = w.above-then-face-e.result } in
+          let new : Demand = record { wants = w.above.result; gives = w.beneath.result } in
           let wants = w.above.ensures ∙ ap above d ∙ sym (wants_at legs cave.valid e l t outer) in
-          let gives = w.above-then-face-e.ensures ∙ ap (λ (d : ℤ). above (to_z w64 (of_z w64 (pos 0 -ℤ d)))) d ∙ negated (demand legs outer e) (demand_high legs cave.few outer e) (demand_low legs cave.few outer e) ∙ sym (gives_at legs cave.valid e l t outer) in
+          let gives = w.beneath.ensures ∙ ap beneath d ∙ sym (gives_at legs cave.valid e l t outer) in
           let x = holds_more no_demand (plan_demand legs outer) c.loop-e.demands k new (omega arith) c.loop-e.invariant (λ i. record { wants = wants i; gives = gives i }) in
           transport (λ i. Holds no_demand (plan_demand legs outer) (sym (w.demands-is ∙ ap (λ n. set c.loop-e.demands n new) v) i) (sym y i)) x)
       | else-face-e w ↦

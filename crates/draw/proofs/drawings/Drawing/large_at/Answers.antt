@@ -16,19 +16,19 @@ module _ (d : Drawing) (s : ℕ) where
   abbrev No : ℕ → Type 0
   No e = station (drawing_legs d) e ≡ s → (drawing_shape d).large e ≡ true → ⊥
 
-  named : (n : ℕ) → n ≡ ends (drawing_legs d) → (r : Option ℕ) → MatchOption r ((k : ℕ) → 0 ≤ k → k < n → k < n → No k) (λ i. (0 ≤ i) × (i < n) × (i < n → Yes i) × ((k : ℕ) → 0 ≤ k → k < i → k < n → No k)) → NamesLarge (drawing_legs d) (drawing_shape d) s r
+  named : (n : ℕ) → n ≡ ends (drawing_legs d) → (r : Option ℕ) → MatchOption r ((k : ℕ) → 0 ≤ k → k < n → k < ends (drawing_legs d) → No k) (λ i. (0 ≤ i) × (i < n) × (i < ends (drawing_legs d) → Yes i) × ((k : ℕ) → 0 ≤ k → k < i → k < ends (drawing_legs d) → No k)) → NamesLarge (drawing_legs d) (drawing_shape d) s r
   named n q None h = λ k l t. no_switch (drawing_legs d) (drawing_shape d) d.angles s (λ k l. h k (omega arith) (omega arith) (omega arith)) k l t
   named n q (Some e) (z, l, hit, missed) =
-      let w = hit l in
       let m : e < ends (drawing_legs d) = omega arith in
+      let w = hit m in
       (m, w.0, at_switch (drawing_legs d) (drawing_shape d) d.angles e m w.1, w.1, λ k l t u. only_large (drawing_legs d) (drawing_shape d) d.angles e m w.1 k l (t ∙ sym w.0) u)
 
 pub returns : goal.returns
 returns c =
     let d = c.args.self.now in
     let s = c.args.station in
-    let n = c.ends.result in
-    named d s n (search rules) c.find.result
+    let n = ends (drawing_legs d) in
+    named d s _ (search rules) c.find.result
     (first_from_Range _ _ _ c.find.result (λ e. e < n → Yes d s e) (λ e. e < n → No d s e) c.find.ensures.ran
     (λ x q k l. search (rules, tests))
     (λ x q k. (search (rules, tests), λ l t u. search (rules, tests))))
