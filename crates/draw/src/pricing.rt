@@ -8,7 +8,7 @@ use crate::bends::Bends;
 use embedding::cave::Cave;
 use price::{Price, Tariff};
 
-// So many times a price.
+// So many times a price. The count is at most that of the bends of a leg, two numbers of 16 bits.
 fn multiply<P: Price>(price: P, count: u32) -> P
     requires count { count ≤ 131070 }
     requires small { P.Price.ops.size price ≤ 1000 }

@@ -28,6 +28,7 @@ add-total-requires g c =
     let i = c.loop-i.invariant.1 in
     omega arith
 
+-- the bends counted are the leg's, by arithmetic
 pub loop-i-preserved : goal.loop-i-preserved
 loop-i-preserved g c =
     let o = g.T.Price.Price.ops in
@@ -37,7 +38,7 @@ loop-i-preserved g c =
     let f : ℕ → g.row.T-Price.Denot = λ i. times o.zero o.plus (n i) (g.T.Tariff.rate c.args.tariff.now (leg_at legs i).weight (leg_at legs i).wet) in
     let b = c.requires.few i (omega arith) in
     let k = c.total.ensures.both in
-    let m : c.multiply.result ≡ f i = c.multiply.ensures.value ∙ ap (λ (k : ℕ). times o.zero o.plus k c.bend_price-bend.result) (omega arith) ∙ ap (λ (p : g.row.T-Price.Denot). times o.zero o.plus (n i) p) c.bend_price-bend.ensures in
+    let m : c.multiply.result ≡ f i = c.multiply.ensures.value ∙ ap (λ (count : ℕ). times o.zero o.plus count c.bend_price-bend.result) (omega arith) ∙ ap (λ (p : g.row.T-Price.Denot). times o.zero o.plus (n i) p) c.bend_price-bend.ensures in
     let e = c.add-total.ensures in
     let s = ap o.size e in
     let z = g.met.T.Price.Price.laws.size_plus c.loop-i.total c.multiply.result in
